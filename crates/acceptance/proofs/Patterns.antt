@@ -1,24 +1,16 @@
 -- Constants in hexadecimal digits, and that no other token is a constant that was none before.
-use Rattle.std.specs.Prelude.{Option, Some, None, option_map}
-use Rattle.std.specs.Option.{option_or}
-use Rattle.std.proofs.Common.{ℕ, ◌≤◌, ◌<◌, ◌^◌, Bool, true, false, ◌&&◌, cond, List, [], ◌∷◌, ◌⊎◌, inl, inr, ◌≡◌, refl, sym, ap, ap₂, ◌∙◌, arith, eqb-true, ℤ, length, to_z-of_z, w32, to_z}
-use Rattle.std.proofs.Math.Bool.{and-false}
-use Rattle.std.proofs.Math.Dec.{eqb, ltb}
+use Rattle.std.proofs.Common.{ℕ, ◌≤◌, ◌<◌, ◌^◌, true, false, List, [], ◌⊎◌, ◌≡◌, refl, sym, ap, ◌∙◌, arith, ℤ, length, to_z-of_z, w32, to_z, Some, None, option_map}
 use Rattle.std.proofs.Math.Facts.{of_z-to_z}
-use Prim.Native.Char.{code}
 use Rattle.policy.proofs.ConstantLaws.{reading_value_is, reading_limit_is}
 use Rattle.policy.specs.Limits.{is_reading_value, operand_in_range, comparison_in_range}
-use Rattle.policy.specs.List.{all}
+use Rattle.std.specs.List.{list_all}
 use Rattle.policy.specs.declared.comparison.Comparison.{Comparison}
-use Rattle.policy.specs.Number.{reading_limit}
 use Rattle.policy.specs.declared.comparison.Operand.{Operand}
-use Rattle.policy.specs.declared.comparison.Relation.{Relation}
-use Rattle.policy.specs.declared.number.Reading.{Reading}
 use Rattle.lexer.proofs.HexLaws.{hex_bound}
 use Rattle.lexer.specs.Byte.{bytes, is_hex_digit}
 use Rattle.lexer.specs.Number.{number_of, decimal_of, hex_number, pattern_digits, too_large, pattern_of, hexadecimal_of, constant_of}
-use Rattle.lexer.specs.Token.{Token, named, reading_of, relation_of, operand_of, both, compare, comparison_by, comparison_of}
-use Rattle.epoch_line.specs.Epoch.{Item, value, assignment_of, item_in_range}
+use Rattle.lexer.specs.Token.{Token, named, reading_of, operand_of, both, comparison_of}
+use Rattle.epoch_line.specs.Epoch.{Item, assignment_of, item_in_range}
 use Rattle.token.proofs.PatternLaws.{not_pattern, pattern_word, pattern_wide}
 use Rattle.acceptance.specs.Patterns.{prefixed, IsPattern, HasWord, Hexadecimal}
 
@@ -29,7 +21,7 @@ not_decimal ds = refl
 
 by_digits : (ds : List ℕ) → constant_of (prefixed ds) ≡ pattern_of ds
 unfolding constant_of hexadecimal_of bytes
-by_digits ds = ap (λ (o : Option ℤ). option_or o (hexadecimal_of (prefixed ds))) (not_decimal ds)
+by_digits ds = rw (not_decimal ds)
 
 -- no two values of readings have the same word
 pub word_once : (k l : ℤ) (w : ℕ) → HasWord k w → HasWord l w → k ≡ l
@@ -47,12 +39,12 @@ module _ (ds : List ℕ) (p : IsPattern ds) where
   pattern_read = (to_z w32 (hex_number ds), by_digits ds ∙ pattern_word ds p.digits (omega (arith, p.some_digit)) p.few, number)
 
 -- more digits are out of range
-pub wide_out_of_range : (ds : List ℕ) → all is_hex_digit ds ≡ true → pattern_digits < length ds → (k : ℤ) × (constant_of (prefixed ds) ≡ Some k) × (is_reading_value k ≡ false)
+pub wide_out_of_range : (ds : List ℕ) → list_all is_hex_digit ds ≡ true → pattern_digits < length ds → (k : ℤ) × (constant_of (prefixed ds) ≡ Some k) × (is_reading_value k ≡ false)
 unfolding is_reading_value
 wide_out_of_range ds e h = (too_large, by_digits ds ∙ pattern_wide ds e h, refl)
 
 -- so is a comparison with them, whatever its reading and its relation, and a value that they are given as
-module _ (ds : List ℕ) (e : all is_hex_digit ds ≡ true) (h : pattern_digits < length ds) where
+module _ (ds : List ℕ) (e : list_all is_hex_digit ds ≡ true) (h : pattern_digits < length ds) where
   wide : constant_of (prefixed ds) ≡ Some too_large
   wide = by_digits ds ∙ pattern_wide ds e h
 
@@ -62,29 +54,18 @@ module _ (ds : List ℕ) (e : all is_hex_digit ds ≡ true) (h : pattern_digits 
 
   pub wide_comparison : (r q : Token) (c : Comparison) → comparison_of r q (prefixed ds) ≡ Some c → comparison_in_range c ≡ false
   unfolding comparison_of comparison_in_range operand_in_range is_reading_value
-  wide_comparison r q c p = go (reading_of r) (relation_of q) (sym (ap (comparison_by (reading_of r) (relation_of q)) wide_operand) ∙ p)
-    where
-      go : (x : Option Reading) (y : Option Relation) → comparison_by x y (Some (Operand.Constant too_large)) ≡ Some c → comparison_in_range c ≡ false
-      go None y k = let z : ◌≡◌ {A = ℕ} 0 1 = cc in absurd (omega arith)
-      go (Some x) None k = let z : ◌≡◌ {A = ℕ} 0 1 = cc in absurd (omega arith)
-      go (Some x) (Some y) k =
-          let same : compare x y (Operand.Constant too_large) ≡ c = cc in
-          sym (ap comparison_in_range same) ∙ and-false (ltb x.0 reading_limit)
+  wide_comparison r q c p = grind (arith, wide_operand)
 
   pub wide_value : (left : List ℕ) (i : Item) → assignment_of (Some (record { left = left; right = prefixed ds })) ≡ Some i → item_in_range i ≡ false
   unfolding assignment_of both item_in_range is_reading_value
-  wide_value left i p = go (named (code "R") left) (sym (ap (both value (named (code "R") left)) wide) ∙ p)
-    where
-      go : (o : Option ℕ) → both value o (Some too_large) ≡ Some i → item_in_range i ≡ false
-      go None k = let z : ◌≡◌ {A = ℕ} 0 1 = cc in absurd (omega arith)
-      go (Some n) k = let same : value n too_large ≡ i = cc in sym (ap item_in_range same) ∙ and-false (ltb n reading_limit)
+  wide_value left i p = grind (arith, wide)
 
 -- no digit, or another byte than a digit
 pub bare_prefix : constant_of (prefixed []) ≡ None
 unfolding pattern_of
 bare_prefix = by_digits []
 
-pub other_byte : (ds : List ℕ) → all is_hex_digit ds ≡ false → constant_of (prefixed ds) ≡ None
+pub other_byte : (ds : List ℕ) → list_all is_hex_digit ds ≡ false → constant_of (prefixed ds) ≡ None
 other_byte ds e = by_digits ds ∙ not_pattern ds e
 
 -- ---- nothing else changed
@@ -92,38 +73,17 @@ other_byte ds e = by_digits ds ∙ not_pattern ds e
 -- a decimal constant is read as before
 pub decimal_kept : (t : List ℕ) (k : ℤ) → decimal_of t ≡ Some k → constant_of t ≡ Some k
 unfolding constant_of
-decimal_kept t k e = ap (λ (o : Option ℤ). option_or o (hexadecimal_of t)) e
+decimal_kept t k e = rw e
 
-pattern_digits_is : (ds : List ℕ) (k : ℤ) → pattern_of ds ≡ Some k → (all is_hex_digit ds ≡ true) × (1 ≤ length ds)
+pattern_digits_is : (ds : List ℕ) (k : ℤ) → pattern_of ds ≡ Some k → (list_all is_hex_digit ds ≡ true) × (1 ≤ length ds)
 unfolding pattern_of
-pattern_digits_is [] k e = let w : ◌≡◌ {A = ℕ} 0 1 = cc in absurd (omega arith)
-pattern_digits_is (d ∷ ds) k e = go (all is_hex_digit (d ∷ ds)) refl
-  where
-    nothing : None ≡ Some k → ⊥
-    nothing w = let z : ◌≡◌ {A = ℕ} 0 1 = cc in omega arith
-
-    go : (b : Bool) → all is_hex_digit (d ∷ ds) ≡ b → (all is_hex_digit (d ∷ ds) ≡ true) × (1 ≤ length (d ∷ ds))
-    go true q = (q, omega arith)
-    go false q = absurd (nothing (sym (not_pattern (d ∷ ds) q) ∙ e))
+pattern_digits_is ds k e = grind (arith, not_pattern)
 
 hexadecimal_form : (t : List ℕ) (k : ℤ) → hexadecimal_of t ≡ Some k → Hexadecimal t
 unfolding hexadecimal_of bytes
-hexadecimal_form [] k e = let w : ◌≡◌ {A = ℕ} 0 1 = cc in absurd (omega arith)
-hexadecimal_form (z ∷ []) k e = let w : ◌≡◌ {A = ℕ} 0 1 = cc in absurd (omega arith)
-hexadecimal_form (z ∷ x ∷ ds) k e = go (eqb z 48) (eqb x 120) refl refl e
-  where
-    go : (a b : Bool) → eqb z 48 ≡ a → eqb x 120 ≡ b → cond (a && b) (pattern_of ds) None ≡ Some k → Hexadecimal (z ∷ x ∷ ds)
-    go true true p q w =
-        let d = pattern_digits_is ds k w in
-        record { digits = ds; token = ap₂ (λ (i j : ℕ). i ∷ j ∷ ds) (eqb-true z 48 p) (eqb-true x 120 q); hexadecimal = d.0; some_digit = d.1 }
-    go true false p q w = let i : ◌≡◌ {A = ℕ} 0 1 = cc in absurd (omega arith)
-    go false b p q w = let i : ◌≡◌ {A = ℕ} 0 1 = cc in absurd (omega arith)
+hexadecimal_form t k e = grind (arith, pattern_digits_is)
 
 -- every constant is a decimal one, or `0x` and hexadecimal digits
 pub constant_forms : (t : List ℕ) (k : ℤ) → constant_of t ≡ Some k → (decimal_of t ≡ Some k) ⊎ Hexadecimal t
 unfolding constant_of
-constant_forms t k e = go (decimal_of t) refl e
-  where
-    go : (o : Option ℤ) → decimal_of t ≡ o → option_or o (hexadecimal_of t) ≡ Some k → (decimal_of t ≡ Some k) ⊎ Hexadecimal t
-    go None p q = inr (hexadecimal_form t k q)
-    go (Some j) p q = inl (p ∙ q)
+constant_forms t k e = grind (arith, hexadecimal_form)

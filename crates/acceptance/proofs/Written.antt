@@ -1,63 +1,50 @@
 -- What is read of a line's tokens is in the grammar, and nothing in the grammar is refused.
-use Rattle.std.specs.Prelude.{Option, Some, None, option_map}
-use Rattle.std.proofs.Common.{ℕ, Bool, true, false, cond, List, [], ◌∷◌, ◌++◌, ◌≡◌, refl, sym, ap, ap₂, ◌∙◌, subst, eqb-true, arith}
-use Rattle.std.proofs.Math.Dec.{eqb}
-use Rattle.policy.proofs.ListLaws.{true_false, and_out}
+use Rattle.std.proofs.Common.{ℕ, Bool, true, false, cond, List, [], ◌∷◌, ◌++◌, ◌≡◌, ◌⊎◌, inl, inr, refl, ap, ◌∙◌, arith, Option, Some, None, option_map}
+use Prim.Native.String.{String}
+use Rattle.policy.proofs.ListLaws.{not_true_is}
 use Rattle.policy.specs.Line.{PolicyLine, rule, constraint}
 use Rattle.policy.specs.Policy.{Rule, Constraint}
 use Rattle.policy.specs.declared.comparison.Comparison.{Comparison}
 use Rattle.policy.specs.declared.comparison.Literal.{Literal}
 use Rattle.policy.specs.declared.effect.Effect.{Effect}
-use Rattle.policy.specs.declared.number.Action.{Action}
-use Rattle.policy.specs.declared.number.Event.{Event}
 use Rattle.lexer.specs.Byte.{bytes, bytes_equal, is}
-use Rattle.lexer.specs.Token.{Token, named, both, literal_of, action_of, event_of, comparison_of}
+use Rattle.lexer.specs.Token.{Token, named, both, literal_of, action_of, comparison_of}
 use Rattle.syntax.specs.Grammar.{Joined, last, before, joined, comparisons_from, condition_from, effect_from, yields, never, rule_after, constraint_after, after, line_from}
 use Rattle.acceptance.specs.Written.{AreJoined, AreComparisons, AreCondition, IsEffect, IsRule, IsConstraint, IsLine}
 
-module _ {A : Type 0} where
-  some_same : {x y : A} → Some x ≡ Some y → x ≡ y
-  some_same e = cc
+-- both are there, where one is made of both
+pub both_out : {A B C : Type 0} (f : A → B → C) (o : Option A) (p : Option B) (z : C) → both f o p ≡ Some z → (x : A) × (y : B) × (o ≡ Some x) × (p ≡ Some y) × (f x y ≡ z)
+unfolding both
+both_out f o p z h = grind arith
 
-  none_some : {B : Type 0} {x : A} → ◌≡◌ {A = Option A} None (Some x) → B
-  none_some e = let w : ◌≡◌ {A = ℕ} 0 1 = cc in absurd (omega arith)
+pub mapped_out : {A B : Type 0} (f : A → B) (o : Option A) (z : B) → option_map f o ≡ Some z → (x : A) × (o ≡ Some x) × (f x ≡ z)
+mapped_out f o z h = grind arith
+
+pub choice_out : {A : Type 0} (b : Bool) (o p : Option A) (z : A) → cond b o p ≡ Some z → ((b ≡ true) × (o ≡ Some z)) ⊎ ((b ≡ false) × (p ≡ Some z))
+choice_out b o p z h = grind arith
 
 -- ---- keywords
 
 same_bytes : (s t : List ℕ) → bytes_equal s t ≡ true → s ≡ t
 unfolding bytes_equal
 same_bytes [] [] e = refl
-same_bytes [] (y ∷ ys) e = absurd (true_false e refl)
-same_bytes (x ∷ xs) [] e = absurd (true_false e refl)
-same_bytes (x ∷ xs) (y ∷ ys) e = let p = and_out (eqb x y) (bytes_equal xs ys) e in ap₂ ◌∷◌ (eqb-true x y p.0) (same_bytes xs ys p.1)
+same_bytes [] (y ∷ ys) e = cc
+same_bytes (x ∷ xs) [] e = cc
+same_bytes (x ∷ xs) (y ∷ ys) e = grind (arith, same_bytes xs ys)
 
+-- what one keyword is, is no other
 module _ (t : Token) where
-  causes_apart : is "causes" t ≡ true → is "&" t ≡ false
-  unfolding is bytes bytes_equal
-  causes_apart h = ap (is "&") (same_bytes t (bytes "causes") h)
-
-  triggers_apart : is "triggers" t ≡ true → is "&" t ≡ false
-  unfolding is bytes bytes_equal
-  triggers_apart h = ap (is "&") (same_bytes t (bytes "triggers") h)
-
-  triggers_other : is "triggers" t ≡ true → is "causes" t ≡ false
-  unfolding is bytes bytes_equal
-  triggers_other h = ap (is "causes") (same_bytes t (bytes "triggers") h)
+  is_other : (k l : String) → is k t ≡ true → is l t ≡ is l (bytes k)
+  unfolding is
+  is_other k l h = ap (is l) (same_bytes t (bytes k) h)
 
   if_apart : is "if" t ≡ true → is "&" t ≡ false
   unfolding is bytes bytes_equal
-  if_apart h = ap (is "&") (same_bytes t (bytes "if") h)
+  if_apart h = is_other "if" "&" h
 
   literal_apart : (x : Literal) → literal_of t ≡ Some x → is "never" t ≡ false
   unfolding is bytes literal_of named
-  literal_apart x h = go (is "never" t) refl
-    where
-      nothing : t ≡ bytes "never" → literal_of t ≡ None
-      nothing e = ap literal_of e
-
-      go : (b : Bool) → is "never" t ≡ b → is "never" t ≡ false
-      go true e = none_some (sym (nothing (same_bytes t (bytes "never") e)) ∙ h)
-      go false e = e
+  literal_apart x h = not_true_is (is "never" t) (λ e. let n : literal_of t ≡ None = ap literal_of (same_bytes t (bytes "never") e) in cc)
 
 -- ---- items joined by `&`
 
@@ -74,204 +61,139 @@ module _ {A : Type 0} (item : Token → Option A) where
 
   read_last : (t : Token) (rest : List Token) (j : Joined A) → option_map (last rest) (item t) ≡ Some j → Read (t ∷ rest) j
   unfolding AreJoined
-  read_last t rest j h = go (item t) refl h
-    where
-      go : (o : Option A) → item t ≡ o → option_map (last rest) o ≡ Some j → Read (t ∷ rest) j
-      go None e h = none_some h
-      go (Some x) e h = subst (Read (t ∷ rest)) (some_same h) (record { front = t ∷ []; tokens = refl; items = e })
+  read_last t rest j h = let k = mapped_out (last rest) (item t) j h in rw (← k.2) (record { front = t ∷ []; tokens = refl; items = k.1 })
 
   items_in : (ts : List Token) (j : Joined A) → joined item ts ≡ Some j → Read ts j
-  unfolding joined AreJoined both
-  items_in [] j h = none_some h
+  unfolding joined AreJoined
+  items_in [] j h = cc
   items_in (t ∷ []) j h = read_last t [] j h
-  items_in (t ∷ s ∷ ts) j h = go (is "&" s) refl (item t) refl (joined item ts) (items_in ts) h
-    where
-      go : (b : Bool) → is "&" s ≡ b → (o : Option A) → item t ≡ o → (p : Option (Joined A)) → ((k : Joined A) → p ≡ Some k → Read ts k)
-          → cond b (both before o p) (option_map (last (s ∷ ts)) (item t)) ≡ Some j → Read (t ∷ s ∷ ts) j
-      go false q o e p k h = read_last t (s ∷ ts) j h
-      go true q None e p k h = none_some h
-      go true q (Some x) e None k h = none_some h
-      go true q (Some x) e (Some y) k h =
-          let r = k y refl in
-          subst (Read (t ∷ s ∷ ts)) (some_same h)
-          (record { front = t ∷ s ∷ r.front; tokens = ap (λ (us : List Token). t ∷ s ∷ us) r.tokens; items = (e, q, r.items) })
+  items_in (t ∷ s ∷ ts) j h =
+      elim (choice_out (is "&" s) (both before (item t) (joined item ts)) (option_map (last (s ∷ ts)) (item t)) j h) [
+        | inl k ↦
+            let b = both_out before (item t) (joined item ts) j k.1 in
+            let r = items_in ts b.1 b.3 in
+            rw (← b.4) (record { front = t ∷ s ∷ r.front; tokens = ap (λ (us : List Token). t ∷ s ∷ us) r.tokens; items = (b.2, k.0, r.items) })
+        | inr k ↦ read_last t (s ∷ ts) j k.1
+      ]
+
+  last_read : (t : Token) (rest : List Token) (x : A) → item t ≡ Some x → EndsItems rest → joined item (t ∷ rest) ≡ Some (last rest x)
+  unfolding joined EndsItems
+  last_read t rest x h e = grind arith
 
   items_read : (front rest : List Token) (xs : List A) → AreJoined item front xs → EndsItems rest → joined item (front ++ rest) ≡ Some (record { items = xs; rest = rest })
-  unfolding joined AreJoined EndsItems both
-  items_read [] rest xs h e = absurd h
-  items_read (t ∷ []) [] [] h e = absurd h
-  items_read (t ∷ []) (s ∷ rest) [] h e = absurd h
-  items_read (t ∷ []) [] (x ∷ []) h e = ap (option_map (last [])) h
-  items_read (t ∷ []) (s ∷ rest) (x ∷ []) h e = rw e (ap (option_map (last (s ∷ rest))) h)
-  items_read (t ∷ []) rest (x ∷ y ∷ xs) h e = absurd h
-  items_read (t ∷ s ∷ ts) rest [] h e = absurd h
-  items_read (t ∷ s ∷ ts) rest (x ∷ xs) h e = rw h.1 (ap₂ (both before) h.0 (items_read ts rest xs h.2 e))
+  unfolding joined AreJoined both
+  items_read (t ∷ []) rest (x ∷ []) h e = last_read t rest x h e
+  items_read (t ∷ s ∷ ts) rest (x ∷ xs) h e = rw (h.1, h.0, items_read ts rest xs h.2 e)
+  items_read _ rest _ h e = absurd h
 
 -- ---- the condition
 
 comparisons_in : (ts : List Token) (cs : List Comparison) → comparisons_from ts ≡ Some cs → AreComparisons ts cs
-unfolding comparisons_from AreComparisons both
-comparisons_in [] cs h = none_some h
-comparisons_in (r ∷ []) cs h = none_some h
-comparisons_in (r ∷ relation ∷ []) cs h = none_some h
-comparisons_in (r ∷ relation ∷ o ∷ []) cs h = go (comparison_of r relation o) refl h
-  where
-    go : (p : Option Comparison) → comparison_of r relation o ≡ p → option_map (λ (c : Comparison). c ∷ []) p ≡ Some cs → AreComparisons (r ∷ relation ∷ o ∷ []) cs
-    go None e h = none_some h
-    go (Some c) e h = subst (AreComparisons (r ∷ relation ∷ o ∷ [])) (some_same h) e
-comparisons_in (r ∷ relation ∷ o ∷ s ∷ ts) cs h = go (is "," s) refl (comparison_of r relation o) refl (comparisons_from ts) (comparisons_in ts) h
-  where
-    go : (b : Bool) → is "," s ≡ b → (p : Option Comparison) → comparison_of r relation o ≡ p → (q : Option (List Comparison)) → ((ds : List Comparison) → q ≡ Some ds → AreComparisons ts ds)
-        → cond b (both ◌∷◌ p q) None ≡ Some cs → AreComparisons (r ∷ relation ∷ o ∷ s ∷ ts) cs
-    go false w p e q k h = none_some h
-    go true w None e q k h = none_some h
-    go true w (Some c) e None k h = none_some h
-    go true w (Some c) e (Some ds) k h = subst (AreComparisons (r ∷ relation ∷ o ∷ s ∷ ts)) (some_same h) (e, w, k ds refl)
+unfolding comparisons_from AreComparisons
+comparisons_in (r ∷ relation ∷ o ∷ []) cs h = grind arith
+comparisons_in (r ∷ relation ∷ o ∷ s ∷ ts) cs h =
+    elim (choice_out (is "," s) (both ◌∷◌ (comparison_of r relation o) (comparisons_from ts)) None cs h) [
+      | inl k ↦ let b = both_out ◌∷◌ (comparison_of r relation o) (comparisons_from ts) cs k.1 in rw (← b.4) (b.2, k.0, comparisons_in ts b.1 b.3)
+      | inr k ↦ cc
+    ]
+comparisons_in _ cs h = cc
 
 comparisons_read : (ts : List Token) (cs : List Comparison) → AreComparisons ts cs → comparisons_from ts ≡ Some cs
 unfolding comparisons_from AreComparisons both
-comparisons_read [] cs h = absurd h
-comparisons_read (r ∷ []) cs h = absurd h
-comparisons_read (r ∷ relation ∷ []) cs h = absurd h
-comparisons_read (r ∷ relation ∷ o ∷ []) [] h = absurd h
-comparisons_read (r ∷ relation ∷ o ∷ []) (c ∷ []) h = ap (option_map (λ (c : Comparison). c ∷ [])) h
-comparisons_read (r ∷ relation ∷ o ∷ []) (c ∷ d ∷ cs) h = absurd h
-comparisons_read (r ∷ relation ∷ o ∷ s ∷ ts) [] h = absurd h
-comparisons_read (r ∷ relation ∷ o ∷ s ∷ ts) (c ∷ cs) h = rw h.1 (ap₂ (both ◌∷◌) h.0 (comparisons_read ts cs h.2))
+comparisons_read (r ∷ relation ∷ o ∷ []) (c ∷ []) h = rw h
+comparisons_read (r ∷ relation ∷ o ∷ s ∷ ts) (c ∷ cs) h = rw (h.1, h.0, comparisons_read ts cs h.2)
+comparisons_read _ _ h = absurd h
 
 condition_in : (ts : List Token) (cs : List Comparison) → condition_from ts ≡ Some cs → AreCondition ts cs
 unfolding condition_from AreCondition
-condition_in [] cs h = sym (some_same h)
-condition_in (t ∷ ts) cs h = go (is "if" t) refl h
-  where
-    go : (b : Bool) → is "if" t ≡ b → cond b (comparisons_from ts) None ≡ Some cs → (is "if" t ≡ true) × AreComparisons ts cs
-    go true e h = (e, comparisons_in ts cs h)
-    go false e h = none_some h
+condition_in ts cs h = grind (arith, comparisons_in)
 
 condition_read : (ts : List Token) (cs : List Comparison) → AreCondition ts cs → condition_from ts ≡ Some cs
 unfolding condition_from AreCondition
-condition_read [] cs h = ap Some (sym h)
-condition_read (t ∷ ts) cs h = rw h.0 (comparisons_read ts cs h.1)
+condition_read ts cs h = grind (arith, comparisons_read)
 
 condition_ends : (ts : List Token) (cs : List Comparison) → AreCondition ts cs → EndsItems ts
 unfolding EndsItems AreCondition
-condition_ends [] cs h = refl
-condition_ends (t ∷ ts) cs h = if_apart t h.0
+condition_ends ts cs h = grind (arith, if_apart)
 
 -- ---- an effect
 
-module _ (keyword name : Token) where
-  effect_in : (x : Effect) → effect_from keyword name ≡ Some x → IsEffect keyword name x
+module _ (keyword name : Token) (x : Effect) where
+  effect_in : effect_from keyword name ≡ Some x → IsEffect keyword name x
   unfolding effect_from IsEffect
-  effect_in x e = go (is "causes" keyword) refl (is "triggers" keyword) refl (action_of name) refl (event_of name) refl e
-    where
-      go : (b : Bool) → is "causes" keyword ≡ b → (c : Bool) → is "triggers" keyword ≡ c → (o : Option Action) → action_of name ≡ o → (p : Option Event) → event_of name ≡ p
-          → cond b (option_map Effect.Causes o) (cond c (option_map Effect.Triggers p) None) ≡ Some x → IsEffect keyword name x
-      go true v c w (Some a) m p n h = subst (IsEffect keyword name) (some_same h) (v, m)
-      go true v c w None m p n h = none_some h
-      go false v true w o m (Some y) n h = subst (IsEffect keyword name) (some_same h) (w, n)
-      go false v true w o m None n h = none_some h
-      go false v false w o m p n h = none_some h
+  effect_in e = grind arith
 
-  effect_read : (x : Effect) → IsEffect keyword name x → effect_from keyword name ≡ Some x
-  unfolding effect_from IsEffect
-  effect_read (Effect.Causes a) h = rw (h.0, h.1)
-  effect_read (Effect.Triggers y) h = rw (triggers_other keyword h.0, h.0, h.1)
+  effect_read : IsEffect keyword name x → effect_from keyword name ≡ Some x
+  unfolding effect_from IsEffect is bytes bytes_equal
+  effect_read h = grind (arith, is_other keyword "triggers" "causes")
 
-  effect_apart : (x : Effect) → IsEffect keyword name x → is "&" keyword ≡ false
-  unfolding IsEffect
-  effect_apart (Effect.Causes a) h = causes_apart keyword h.0
-  effect_apart (Effect.Triggers y) h = triggers_apart keyword h.0
+  effect_apart : IsEffect keyword name x → is "&" keyword ≡ false
+  unfolding IsEffect is bytes bytes_equal
+  effect_apart h = grind (arith, is_other keyword "triggers" "&", is_other keyword "causes" "&")
 
 -- ---- the two shapes
 
-rule_in : (ts : List Token) (l : PolicyLine) → after rule_after (joined literal_of ts) ≡ Some l → IsLine ts l
-unfolding after rule_after both
-rule_in ts l h = go (joined literal_of ts) refl h
-  where
-    behind : (j : Joined Literal) → Read literal_of ts j → (rest : List Token) → j.rest ≡ rest → rule_after j.items rest ≡ Some l → IsLine ts l
-    behind j r [] q h = none_some h
-    behind j r (c ∷ []) q h = none_some h
-    behind j r (c ∷ a ∷ us) q h = whole (effect_from c a) refl (condition_from us) refl h
-      where
-        whole : (o : Option Effect) → effect_from c a ≡ o → (p : Option (List Comparison)) → condition_from us ≡ p → both (yields j.items) o p ≡ Some l → IsLine ts l
-        whole None e p k h = none_some h
-        whole (Some x) e None k h = none_some h
-        whole (Some x) e (Some cs) k h =
-            subst (IsLine ts) (some_same h)
-            (record {
-              literals = r.front;
-              keyword = c;
-              name = a;
-              condition = us;
-              tokens = r.tokens ∙ ap (λ (vs : List Token). r.front ++ vs) q;
-              are_literals = r.items;
-              is_effect = effect_in c a x e;
-              are_condition = condition_in us cs k;
-            })
+after_out : {A : Type 0} (f : List A → List Token → Option PolicyLine) (o : Option (Joined A)) (l : PolicyLine) → after f o ≡ Some l
+    → (j : Joined A) × (o ≡ Some j) × (f j.items j.rest ≡ Some l)
+unfolding after
+after_out f o l h = grind arith
 
-    go : (o : Option (Joined Literal)) → joined literal_of ts ≡ o → after rule_after o ≡ Some l → IsLine ts l
-    go None e h = none_some h
-    go (Some j) e h = behind j (items_in literal_of ts j e) j.rest refl h
+rule_in : (ts : List Token) (l : PolicyLine) → after rule_after (joined literal_of ts) ≡ Some l → IsLine ts l
+unfolding rule_after
+rule_in ts l h = let k = after_out rule_after (joined literal_of ts) l h in let r = items_in literal_of ts k.0 k.1 in behind k.0.items k.0.rest r.front r.tokens r.items k.2
+  where
+    behind : (xs : List Literal) (rest front : List Token) → ts ≡ front ++ rest → AreJoined literal_of front xs → rule_after xs rest ≡ Some l → IsLine ts l
+    behind xs (c ∷ a ∷ us) front e i h =
+        let b = both_out (yields xs) (effect_from c a) (condition_from us) l h in
+        rw (← b.4)
+        (record {
+          literals = front;
+          keyword = c;
+          name = a;
+          condition = us;
+          tokens = e;
+          are_literals = i;
+          is_effect = effect_in c a b.0 b.2;
+          are_condition = condition_in us b.1 b.3;
+        })
+    behind xs _ front e i h = cc
 
 constraint_in : (t : Token) (ts : List Token) (l : PolicyLine) → is "never" t ≡ true → after constraint_after (joined action_of ts) ≡ Some l → IsLine (t ∷ ts) l
-unfolding after constraint_after
-constraint_in t ts l w h = go (joined action_of ts) refl h
-  where
-    behind : (j : Joined Action) → Read action_of ts j → (p : Option (List Comparison)) → condition_from j.rest ≡ p → option_map (never j.items) p ≡ Some l → IsLine (t ∷ ts) l
-    behind j r None k h = none_some h
-    behind j r (Some cs) k h =
-        subst (IsLine (t ∷ ts)) (some_same h)
-        (record {
-          keyword = t;
-          actions = r.front;
-          condition = j.rest;
-          tokens = ap (λ (us : List Token). t ∷ us) r.tokens;
-          never = w;
-          are_actions = r.items;
-          are_condition = condition_in j.rest cs k;
-        })
-
-    go : (o : Option (Joined Action)) → joined action_of ts ≡ o → after constraint_after o ≡ Some l → IsLine (t ∷ ts) l
-    go None e h = none_some h
-    go (Some j) e h = behind j (items_in action_of ts j e) (condition_from j.rest) refl h
+unfolding constraint_after
+constraint_in t ts l w h =
+    let k = after_out constraint_after (joined action_of ts) l h in
+    let r = items_in action_of ts k.0 k.1 in
+    let c = mapped_out (never k.0.items) (condition_from k.0.rest) l k.2 in
+    rw (← c.2)
+    (record {
+      keyword = t;
+      actions = r.front;
+      condition = k.0.rest;
+      tokens = ap (λ (us : List Token). t ∷ us) r.tokens;
+      never = w;
+      are_actions = r.items;
+      are_condition = condition_in k.0.rest c.0 c.1;
+    })
 
 -- what is read is in the grammar
 pub line_in : (ts : List Token) (l : PolicyLine) → line_from ts ≡ Some l → IsLine ts l
 unfolding line_from
-line_in [] l h = none_some h
-line_in (t ∷ ts) l h = go (is "never" t) refl h
-  where
-    go : (b : Bool) → is "never" t ≡ b
-        → cond b (after constraint_after (joined action_of ts)) (after rule_after (joined literal_of (t ∷ ts))) ≡ Some l → IsLine (t ∷ ts) l
-    go true e h = constraint_in t ts l e h
-    go false e h = rule_in (t ∷ ts) l h
+line_in ts l h = grind (arith, choice_out, constraint_in, rule_in)
+
+-- a rule's line begins with no `never`
+line_of_rule : (front : List Token) (xs : List Literal) → AreJoined literal_of front xs → (rest : List Token) → line_from (front ++ rest) ≡ after rule_after (joined literal_of (front ++ rest))
+unfolding line_from AreJoined
+line_of_rule (t ∷ []) (x ∷ []) h rest = rw (literal_apart t x h)
+line_of_rule (t ∷ s ∷ ts) (x ∷ xs) h rest = rw (literal_apart t x h.0)
+line_of_rule _ _ h rest = absurd h
 
 rule_read : (ts : List Token) (x : Rule) → IsRule ts x → line_from ts ≡ Some (rule x)
-unfolding line_from after rule_after both EndsItems AreJoined
-rule_read ts x r = ap line_from r.tokens ∙ first r.literals r.are_literals refl
-  where
-    rest : List Token
-    rest = r.keyword ∷ r.name ∷ r.condition
-
-    items : joined literal_of (r.literals ++ rest) ≡ Some (record { items = x.literals; rest = rest })
-    items = items_read literal_of r.literals rest x.literals r.are_literals (effect_apart r.keyword r.name x.effect r.is_effect)
-
-    line : after rule_after (joined literal_of (r.literals ++ rest)) ≡ Some (rule x)
-    line = ap (after rule_after) items ∙ ap₂ (both (yields x.literals)) (effect_read r.keyword r.name x.effect r.is_effect) (condition_read r.condition x.comparisons r.are_condition)
-
-    head_apart : (t : Token) (us : List Token) (ls : List Literal) → AreJoined literal_of (t ∷ us) ls → is "never" t ≡ false
-    head_apart t [] [] h = absurd h
-    head_apart t [] (y ∷ []) h = literal_apart t y h
-    head_apart t [] (y ∷ z ∷ ys) h = absurd h
-    head_apart t (u ∷ us) [] h = absurd h
-    head_apart t (u ∷ us) (y ∷ ys) h = literal_apart t y h.0
-
-    first : (front : List Token) → AreJoined literal_of front x.literals → r.literals ≡ front → line_from (r.literals ++ rest) ≡ Some (rule x)
-    first [] h e = absurd h
-    first (t ∷ us) h e =
-        ap (λ (vs : List Token). line_from (vs ++ rest)) e ∙ rw (head_apart t us x.literals h)
-        (ap (λ (vs : List Token). after rule_after (joined literal_of (vs ++ rest))) (sym e) ∙ line)
+unfolding after rule_after both EndsItems
+rule_read ts x r =
+    let rest : List Token = r.keyword ∷ r.name ∷ r.condition in
+    ap line_from r.tokens ∙ line_of_rule r.literals x.literals r.are_literals rest
+    ∙ ap (after rule_after) (items_read literal_of r.literals rest x.literals r.are_literals (effect_apart r.keyword r.name x.effect r.is_effect))
+    ∙ rw (effect_read r.keyword r.name x.effect r.is_effect, condition_read r.condition x.comparisons r.are_condition)
 
 constraint_read : (ts : List Token) (x : Constraint) → IsConstraint ts x → line_from ts ≡ Some (constraint x)
 unfolding line_from after constraint_after
@@ -282,5 +204,4 @@ constraint_read ts x r =
 
 -- nothing in the grammar is refused
 pub line_read : (ts : List Token) (l : PolicyLine) → IsLine ts l → line_from ts ≡ Some l
-line_read ts (rule x) r = rule_read ts x r
-line_read ts (constraint x) r = constraint_read ts x r
+line_read ts l r = grind (arith, rule_read, constraint_read)

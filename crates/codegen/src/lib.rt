@@ -68,6 +68,7 @@ fn put_lines(out: &mut [u8], form: u8, text: &[u8], start: PerPart<usize>) -> Pe
 }
 
 /// The image of two accepted texts, for which there is room.
+#[tactic(auto, using(crate::proofs::PutLaws::lines_behind, layout::proofs::CheckLaws::limits_small), unfolding(crate::specs::Steps::Put::put_image, crate::specs::Steps::Put::put_content))]
 fn put_image(
     out: &mut [u8],
     form: u8,
@@ -96,6 +97,7 @@ fn put_image(
 /// Writes the image of the maker's and the site's text as one, in a form, from the start of the buffer on, and answers how many bytes it
 /// has, or why there is none: 8 where the form is unknown, a fault of a text, 1 to 6, or 15 where the buffer has too few bytes. A refusal
 /// leaves the buffer as it is, and an image what stands behind it. `IMAGE_SIZE` bytes of the crate image are enough for every image.
+#[tactic(auto, using(rule_text::proofs::ReadLaws::counted_err), unfolding(crate::specs::Compile::compiled_texts, crate::specs::Compile::output_of, rule_text::specs::Answer::texts_read))]
 pub fn compile_texts(form: u8, maker: &[u8], site: &[u8], out: &mut [u8]) -> Result<usize, Refusal>
     ensures answer { result ≡ (compiled_texts form maker.now site.now out.old).answer }
     ensures buffer { out.new ≡ (compiled_texts form maker.now site.now out.old).buffer }
@@ -116,6 +118,7 @@ pub fn compile_texts(form: u8, maker: &[u8], site: &[u8], out: &mut [u8]) -> Res
 }
 
 /// The same of a single text, which is the maker's: the site's is empty.
+#[tactic(auto, using(crate::proofs::CompileLaws::compiled_alone))]
 pub fn compile(form: u8, text: &[u8], out: &mut [u8]) -> Result<usize, Refusal>
     ensures answer { result ≡ (compiled form text.now out.old).answer }
     ensures buffer { out.new ≡ (compiled form text.now out.old).buffer }

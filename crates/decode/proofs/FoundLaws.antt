@@ -1,6 +1,5 @@
 -- One line, by the number of its words.
-use Rattle.std.specs.Prelude.{Option, Some, None}
-use Rattle.std.proofs.Common.{ℕ, ◌≤◌, ◌<◌, List, ◌≡◌, refl, ap, arith, length, drop, length-append}
+use Rattle.std.proofs.Common.{ℕ, ◌≤◌, ◌<◌, List, ◌≡◌, refl, ap, arith, length, drop, length-append, Option, Some, None}
 use Rattle.policy.specs.Line.{PolicyLine, heads_of, comparisons_of, ending_of}
 use Rattle.decode.proofs.DecodeLaws.{line_out}
 use Rattle.layout.proofs.LayoutLaws.{part_length, condition_size_limit}

@@ -1,15 +1,14 @@
 -- Numbers below 64 stand once each exactly where the set of them has as many members.
-use Rattle.std.proofs.Common.{ℕ, zero, suc, ◌+◌, ◌*◌, ◌/◌, ◌%◌, ◌^◌, ◌≤◌, ◌<◌, Bool, true, false, cond, ◌||◌, List, [], ◌∷◌, map, ◌≡◌, refl, sym, ap, ap₂, ◌∙◌, arith, ltb-true, lt-ltb, eqb-true, length, fold}
-use Rattle.std.proofs.lemmas.Bool.{eqb-false}
-use Rattle.std.proofs.lemmas.Nat.{shr_split, or_block, or_comm, ones_cat, pow_pos}
-use Rattle.std.proofs.Math.Dec.{ltb, eqb}
-use Rattle.std.specs.Int.Bits.{bit_or}
+use Rattle.std.proofs.Common.{ℕ, suc, ◌+◌, ◌*◌, ◌/◌, ◌%◌, ◌^◌, ◌≤◌, ◌<◌, Bool, true, not, cond, ◌||◌, List, [], ◌∷◌, map, ◌≡◌, refl, sym, ap, ap₂, ◌∙◌, arith, ltb-true, lt-ltb, length, fold, pow_pos, ltb, eqb, bit_or}
+use Rattle.std.proofs.lemmas.Bool.Decides.{nat_tests}
+use Rattle.std.proofs.Math.ListN.{length-map}
+use Rattle.std.proofs.lemmas.Nat.{shr_split, or_block, or_comm, ones_cat}
 use Rattle.std.specs.Int.RustNames.{count_ones}
-use Rattle.policy.proofs.ListLaws.{true_false, and_in, and_out}
+use Rattle.policy.proofs.ListLaws.{and_in, and_out}
 use Rattle.policy.proofs.SeenLaws.{seen_repeats}
 use Rattle.policy.proofs.SetLaws.{insert_in}
 use Rattle.policy.specs.Limits.{repeats}
-use Rattle.policy.specs.List.{all}
+use Rattle.std.specs.List.{list_all}
 use Rattle.policy.specs.Number.{set_limit}
 use Rattle.policy.specs.Set.{has, insert}
 use Rattle.policy.specs.Steps.Seen.{seen_in}
@@ -25,23 +24,9 @@ or_none n = or_comm n 0
 below_pow : (n k : ℕ) → n % 2 ^ k < 2 ^ k
 below_pow n k = let p : 0 < 2 ^ k = pow_pos k in omega arith
 
-module _ (b : ℕ) (h : b < 2) where
-  digit_ones : count_ones b ≡ b
-  unfolding count_ones
-  digit_ones = go b h
-    where
-      go : (n : ℕ) → n < 2 → count_ones n ≡ n
-      go zero l = refl
-      go (suc zero) l = refl
-      go (suc (suc n)) l = absurd (omega arith)
-
-  digit_or : bit_or b 1 ≡ 1
-  digit_or = go b h
-    where
-      go : (n : ℕ) → n < 2 → bit_or n 1 ≡ 1
-      go zero l = refl
-      go (suc zero) l = refl
-      go (suc (suc n)) l = absurd (omega arith)
+digit : (b : ℕ) → b < 2 → (count_ones b ≡ b) × (bit_or b 1 ≡ 1)
+unfolding count_ones
+digit b l = grind arith
 
 -- the lowest digit is set
 ones_or_one : (q : ℕ) → count_ones (bit_or q 1) + q % 2 ≡ count_ones q + 1
@@ -49,11 +34,11 @@ ones_or_one q =
     let d : q % 2 < 2 = omega arith in
     let set : bit_or q 1 ≡ q / 2 ^ 1 * 2 ^ 1 + 1 =
     ap (λ (x : ℕ). bit_or x 1) (split q 1) ∙ or_block 1 (q / 2 ^ 1) 0 (q % 2 ^ 1) 1 (below_pow q 1) (omega arith)
-    ∙ ap₂ (λ (x y : ℕ). x * 2 ^ 1 + y) (or_none (q / 2 ^ 1)) (digit_or (q % 2) d) in
+    ∙ ap₂ (λ (x y : ℕ). x * 2 ^ 1 + y) (or_none (q / 2 ^ 1)) (digit (q % 2) d).1 in
     let after : count_ones (bit_or q 1) ≡ count_ones (q / 2 ^ 1) + 1 =
-    ap count_ones set ∙ ones_cat 1 (q / 2 ^ 1) 1 (omega arith) ∙ ap (λ (x : ℕ). count_ones (q / 2 ^ 1) + x) (digit_ones 1 (omega arith)) in
+    ap count_ones set ∙ ones_cat 1 (q / 2 ^ 1) 1 (omega arith) ∙ ap (λ (x : ℕ). count_ones (q / 2 ^ 1) + x) (digit 1 (omega arith)).0 in
     let before : count_ones q ≡ count_ones (q / 2 ^ 1) + q % 2 =
-    ap count_ones (split q 1) ∙ ones_cat 1 (q / 2 ^ 1) (q % 2 ^ 1) (below_pow q 1) ∙ ap (λ (x : ℕ). count_ones (q / 2 ^ 1) + x) (digit_ones (q % 2) d) in
+    ap count_ones (split q 1) ∙ ones_cat 1 (q / 2 ^ 1) (q % 2 ^ 1) (below_pow q 1) ∙ ap (λ (x : ℕ). count_ones (q / 2 ^ 1) + x) (digit (q % 2) d).0 in
     omega (arith, after, before)
 
 ones_insert : (s n : ℕ) → n < 64 → count_ones (insert s n) + s / 2 ^ n % 2 ≡ count_ones s + 1
@@ -70,63 +55,21 @@ ones_insert s n h =
 
 ones_has : (s n : ℕ) → n < 64 → count_ones (insert s n) + cond (has s n) 1 0 ≡ count_ones s + 1
 unfolding has
-ones_has s n h = go (eqb (s / 2 ^ n % 2) 1) refl
-  where
-    go : (b : Bool) → eqb (s / 2 ^ n % 2) 1 ≡ b → count_ones (insert s n) + cond b 1 0 ≡ count_ones s + 1
-    go true e = omega (arith, ones_insert s n h, eqb-true (s / 2 ^ n % 2) 1 e)
-    go false e = let z = eqb-false (s / 2 ^ n % 2) 1 e in omega (arith, ones_insert s n h)
+ones_has s n h = let i = ones_insert s n h in grind (arith, nat_tests)
 
 -- a set that takes in numbers has one member more for each, unless one was seen
-record Gathered (s : ℕ) (ns : List ℕ) : Type 0 where
-  most : count_ones (fold insert s ns) ≤ count_ones s + length ns
-  once : count_ones (fold insert s ns) ≡ count_ones s + length ns → seen_in s ns ≡ false
-  back : seen_in s ns ≡ false → count_ones (fold insert s ns) ≡ count_ones s + length ns
+gathered_more : (had seen : Bool) (before one list_all k : ℕ) → one + cond had 1 0 ≡ before + 1 → (list_all ≤ one + k) × (eqb list_all (one + k) ≡ not seen) → (list_all ≤ before + suc k) × (eqb list_all (before + suc k) ≡ not (had || seen))
+gathered_more had seen before one list_all k e h = grind (arith, nat_tests)
 
-gathered : (s : ℕ) (ns : List ℕ) → all (λ (n : ℕ). ltb n set_limit) ns ≡ true → Gathered s ns
+gathered : (s : ℕ) (ns : List ℕ) → list_all (λ (n : ℕ). ltb n set_limit) ns ≡ true → (count_ones (fold insert s ns) ≤ count_ones s + length ns) × (eqb (count_ones (fold insert s ns)) (count_ones s + length ns) ≡ not (seen_in s ns))
 unfolding seen_in
-gathered s [] h = record { most = omega arith; once = λ e. refl; back = λ e. omega arith }
-gathered s (n ∷ ns) h = go (has s n) refl (gathered (insert s n) ns p.1)
-  where
-    p : (ltb n set_limit ≡ true) × (all (λ (m : ℕ). ltb m set_limit) ns ≡ true)
-    p = and_out (ltb n set_limit) (all (λ (m : ℕ). ltb m set_limit) ns) h
+gathered s [] h = grind (arith, nat_tests)
+gathered s (n ∷ ns) h = grind (arith, and_out, gathered_more, ones_has, ltb-true, gathered (insert s n) ns)
 
-    step : (b : Bool) → has s n ≡ b → count_ones (insert s n) + cond b 1 0 ≡ count_ones s + 1
-    step b e = ap (λ (x : Bool). count_ones (insert s n) + cond x 1 0) (sym e) ∙ ones_has s n (ltb-true n 64 p.0)
-
-    go : (b : Bool) → has s n ≡ b → Gathered (insert s n) ns → Gathered s (n ∷ ns)
-    go true e g =
-        let m = g.most in
-        let k = step true e in
-        record { most = omega (arith, k); once = λ q. absurd (omega (arith, k, q, m)); back = λ q. absurd (true_false (ap (λ (x : Bool). x || seen_in (insert s n) ns) e) q) }
-    go false e g =
-        let m = g.most in
-        let k = step false e in
-        record {
-          most = omega (arith, k);
-          once = λ q. ap (λ (x : Bool). x || seen_in (insert s n) ns) e ∙ g.once (omega (arith, k, q));
-          back = λ q. let r = g.back (sym (ap (λ (x : Bool). x || seen_in (insert s n) ns) e) ∙ q) in omega (arith, k, r);
-        }
-
-firsts_below : (ws : List ℕ) → all (λ (n : ℕ). ltb n set_limit) (map first_of ws) ≡ true
+firsts_below : (ws : List ℕ) → list_all (λ (n : ℕ). ltb n set_limit) (map first_of ws) ≡ true
 firsts_below [] = refl
 firsts_below (w ∷ ws) = and_in (lt-ltb (first_of w) 64 (omega arith)) (firsts_below ws)
 
-none_yet : count_ones 0 ≡ 0
-none_yet = digit_ones 0 (omega arith)
-
 -- the first numbers of words
-module _ (ws : List ℕ) where
-  pub ones_once : count_ones (numbers_of (map first_of ws)) ≡ length (map first_of ws) → repeats (map first_of ws) ≡ false
-  ones_once e =
-      let g = gathered 0 (map first_of ws) (firsts_below ws) in
-      sym (seen_repeats (map first_of ws) (firsts_below ws)) ∙ g.once (omega (arith, e, none_yet))
-
-  pub ones_twice : (count_ones (numbers_of (map first_of ws)) ≡ length (map first_of ws) → ⊥) → repeats (map first_of ws) ≡ true
-  ones_twice n = go (repeats (map first_of ws)) refl
-    where
-      go : (b : Bool) → repeats (map first_of ws) ≡ b → b ≡ true
-      go true q = refl
-      go false q =
-          let g = gathered 0 (map first_of ws) (firsts_below ws) in
-          let e = g.back (seen_repeats (map first_of ws) (firsts_below ws) ∙ q) in
-          absurd (n (omega (arith, e, none_yet)))
+pub ones_tell : (ws : List ℕ) → eqb (count_ones (numbers_of (map first_of ws))) (length ws) ≡ not (repeats (map first_of ws))
+ones_tell ws = grind (arith, digit, length-map, seen_repeats, firsts_below, gathered)

@@ -1,18 +1,18 @@
 -- The words of a line say its parts.
-use Rattle.std.proofs.Common.{ℕ, ◌<◌, ◌≤◌, true, List, [], ◌∷◌, ◌++◌, map, append_assoc, ◌≡◌, ap, ◌∙◌, arith, ltb-true, length}
-use Rattle.std.proofs.Math.ListN.{get_or}
+use Rattle.std.proofs.Common.{ℕ, ◌<◌, ◌≤◌, true, List, [], ◌∷◌, ◌++◌, map, append_assoc, suc, ◌≡◌, refl, ap, arith, ltb-true, length, length-append, get_or}
+use Rattle.std.proofs.Math.Seq.{get_or_at}
 use Rattle.policy.proofs.ListLaws.{and_out}
-use Rattle.policy.proofs.ValidLaws.{valid_out, test_in_range}
-use Rattle.policy.specs.Limits.{valid, test_number, comparison_in_range, ending_in_range}
+use Rattle.policy.proofs.ValidLaws.{ValidParts, valid_out, test_in_range}
+use Rattle.policy.specs.Limits.{valid, test_number, comparison_in_range}
 use Rattle.policy.specs.Line.{PolicyLine, heads_of, comparisons_of, ending_of}
-use Rattle.policy.specs.List.{all}
+use Rattle.std.specs.List.{list_all}
 use Rattle.policy.specs.declared.comparison.Comparison.{Comparison}
 use Rattle.policy.specs.declared.line.Ending.{Ending}
 use Rattle.policy.specs.declared.line.Test.{Test}
 use Rattle.operation.specs.Parts.{test_word, comparison_words, ending_word}
 use Rattle.operation.specs.Said.{says, constants_of}
 use Rattle.operation.specs.declared.said.LinePart.{LinePart}
-use Rattle.operation.proofs.PartsLaws.{Written, with_constant, with_reading, written}
+use Rattle.operation.proofs.PartsLaws.{Written, written}
 use Rattle.operation.proofs.SaidLaws.{test_said, ending_said, constant_said, reading_said}
 use Rattle.layout.specs.Layout.{condition_words, part_words, line_words}
 use Rattle.layout.proofs.LayoutLaws.{condition_length, part_length, condition_size_limit}
@@ -24,14 +24,52 @@ said_in_by w ws p e = ap (λ (x : LinePart). x ∷ said_in (constants_of x) ws) 
 
 pub comparison_parts : (c : Comparison) (k : ℕ) (ws : List ℕ) → Written c k → said_in 0 (comparison_words c k ++ ws) ≡ LinePart.Comparison c ∷ said_in 0 ws
 unfolding said_in
-comparison_parts c k ws (with_constant w v e o s b _ _) =
-    let said = constant_said c w v o b in
-    ap (λ (l : List ℕ). said_in 0 (l ++ ws)) e ∙ said_in_by w (v ∷ ws) (LinePart.Comparison c) said.0
-    ∙ ap (λ (n : ℕ). LinePart.Comparison c ∷ said_in n (v ∷ ws)) said.1
-comparison_parts c k ws (with_reading w e o s b _ _) =
-    let said = reading_said c w (get_or ws 0 0) o b in
-    ap (λ (l : List ℕ). said_in 0 (l ++ ws)) e ∙ said_in_by w ws (LinePart.Comparison c) said.0
-    ∙ ap (λ (n : ℕ). LinePart.Comparison c ∷ said_in n ws) said.1
+comparison_parts c k ws h = grind (arith, constant_said, said_in_by, reading_said)
+
+pub tail_small : (cs : List Comparison) (e : Ending) → length cs ≤ 4 → (0 < length (condition_words cs e)) × (length (condition_words cs e) < 24)
+tail_small cs e l = omega (arith, condition_length cs e, condition_size_limit cs)
+
+-- the words before the last, and what they say
+pub record Front (ts : List Test) (cs : List Comparison) (e : Ending) : Type 0 where
+  pub words : List ℕ
+  pub whole : part_words ts cs e ≡ words ++ ending_word e ∷ []
+  pub tells : (rest : List ℕ) → said_in 0 (words ++ rest) ≡ map LinePart.Head ts ++ (map LinePart.Comparison cs ++ said_in 0 rest)
+
+module _ (e : Ending) where
+  condition_front : (cs : List Comparison) → list_all comparison_in_range cs ≡ true → length cs ≤ 4 → Front [] cs e
+  unfolding part_words condition_words
+  condition_front [] r l = record { words = []; whole = refl; tells = λ rest. refl }
+  condition_front (c ∷ cs) r l =
+      let p = and_out (comparison_in_range c) (list_all comparison_in_range cs) r in
+      let k : ℕ = length (condition_words cs e) in
+      let f = condition_front cs p.1 (omega arith) in
+      record {
+        words = comparison_words c k ++ f.words;
+        whole = rw append_assoc (cc f.whole);
+        tells = λ rest. rw (append_assoc (comparison_words c k) f.words rest, comparison_parts c k (f.words ++ rest) (written c k p.0 (omega (arith, tail_small cs e (omega arith)))), f.tells rest);
+      }
+
+  parts_front : (cs : List Comparison) → list_all comparison_in_range cs ≡ true → length cs ≤ 4 → (ts : List Test) → list_all test_in_range ts ≡ true → length ts ≤ 8 → Front ts cs e
+  unfolding part_words constants_of
+  parts_front cs r few [] t l = condition_front cs r few
+  parts_front cs r few (x ∷ xs) t l =
+      let p = and_out (test_in_range x) (list_all test_in_range xs) t in
+      let k : ℕ = length (part_words xs cs e) in
+      let f = parts_front cs r few xs p.1 (omega arith) in
+      let small : k < 32 = omega (arith, part_length xs cs e, condition_size_limit cs) in
+      record {
+        words = test_word x k ∷ f.words;
+        whole = cc f.whole;
+        tells = λ rest. rw (said_in_by (test_word x k) (f.words ++ rest) (LinePart.Head x) (test_said x k (get_or (f.words ++ rest) 0 0) (ltb-true (test_number x) 64 p.0) small), f.tells rest);
+      }
+
+pub front : (ts : List Test) (cs : List Comparison) (e : Ending) → ValidParts ts cs e → Front ts cs e
+front ts cs e v = parts_front e cs v.comparisons v.few_comparisons ts v.tests v.few_tests
+
+pub last_word : (ts : List Test) (cs : List Comparison) (e : Ending) → ValidParts ts cs e → (rest : List ℕ) (m : ℕ) → length (part_words ts cs e) ≡ suc m → get_or (part_words ts cs e ++ rest) m 0 ≡ ending_word e
+last_word ts cs e v rest m l =
+    let f = front ts cs e v in
+    rw (f.whole, append_assoc f.words (ending_word e ∷ []) rest) (get_or_at f.words (ending_word e) rest 0 m (omega (arith, ap length f.whole, length-append f.words (ending_word e ∷ []))))
 
 -- comparisons and an ending, and heads before them
 abbrev pub condition_parts : List Comparison → Ending → List LinePart → List LinePart
@@ -40,31 +78,10 @@ condition_parts cs e rest = map LinePart.Comparison cs ++ (LinePart.Ending e ∷
 abbrev pub line_parts : List Test → List Comparison → Ending → List LinePart → List LinePart
 line_parts ts cs e rest = map LinePart.Head ts ++ condition_parts cs e rest
 
-module _ (e : Ending) (sound : ending_in_range e ≡ true) (rest : List ℕ) where
-  condition_said : (cs : List Comparison) → all comparison_in_range cs ≡ true → length cs ≤ 4 → said_in 0 (condition_words cs e ++ rest) ≡ condition_parts cs e (said_in 0 rest)
-  unfolding condition_words constants_of
-  condition_said [] r l = said_in_by (ending_word e) rest (LinePart.Ending e) (ending_said e (get_or rest 0 0) sound)
-  condition_said (c ∷ cs) r l =
-      let tail : List ℕ = condition_words cs e in
-      let p = and_out (comparison_in_range c) (all comparison_in_range cs) r in
-      let small : length tail < 32 = omega (arith, condition_length cs e, condition_size_limit cs) in
-      ap (said_in 0) (append_assoc (comparison_words c (length tail)) tail rest)
-      ∙ comparison_parts c (length tail) (tail ++ rest) (written c (length tail) p.0 small)
-      ∙ ap (λ (ps : List LinePart). LinePart.Comparison c ∷ ps) (condition_said cs p.1 (omega arith))
-
-  parts_said : (cs : List Comparison) → all comparison_in_range cs ≡ true → length cs ≤ 4 → (ts : List Test) → all test_in_range ts ≡ true → length ts ≤ 8
-      → said_in 0 (part_words ts cs e ++ rest) ≡ line_parts ts cs e (said_in 0 rest)
-  unfolding part_words constants_of
-  parts_said cs r few [] t l = condition_said cs r few
-  parts_said cs r few (x ∷ xs) t l =
-      let tail : List ℕ = part_words xs cs e in
-      let p = and_out (test_in_range x) (all test_in_range xs) t in
-      let k : length tail < 32 = omega (arith, part_length xs cs e, condition_size_limit cs) in
-      said_in_by (test_word x (length tail)) (tail ++ rest) (LinePart.Head x) (test_said x (length tail) (get_or (tail ++ rest) 0 0) (ltb-true (test_number x) 64 p.0) k)
-      ∙ ap (λ (ps : List LinePart). LinePart.Head x ∷ ps) (parts_said cs r few xs p.1 (omega arith))
-
 pub line_said : (l : PolicyLine) (rest : List ℕ) → valid l ≡ true → said_in 0 (line_words l ++ rest) ≡ line_parts (heads_of l) (comparisons_of l) (ending_of l) (said_in 0 rest)
-unfolding line_words
+unfolding line_words constants_of
 line_said l rest v =
     let h = valid_out l v in
-    parts_said (ending_of l) h.ending rest (comparisons_of l) h.comparisons h.few_comparisons (heads_of l) h.tests h.few_tests
+    let e : Ending = ending_of l in
+    let f = front (heads_of l) (comparisons_of l) e h in
+    rw (f.whole, append_assoc f.words (ending_word e ∷ []) rest, f.tells (ending_word e ∷ rest), said_in_by (ending_word e) rest (LinePart.Ending e) (ending_said e (get_or rest 0 0) h.ending))

@@ -81,6 +81,7 @@ fn head_operations(part: Part) -> u32
 }
 
 // The number of the head that the word is, with `left` words of its line behind it; none where it is no head of the part.
+#[tactic(auto, using(crate::proofs::FormLaws::head_found, crate::proofs::FormLaws::headless))]
 fn head_number(part: Part, word: u32, left: u32) -> Option<u8>
     requires { left < 32 }
     ensures { MatchOption result (head_sound part word left ≡ false) (λ number. (head_sound part word left ≡ true) × (number ≡ first_of word)) }
@@ -124,6 +125,7 @@ fn is_trigger(form: u8, part: Part, word: u32) -> bool
     }
 }
 
+#[tactic(auto, using(crate::proofs::FormLaws::ending_cases))]
 fn is_ending(form: u8, part: Part, word: u32) -> bool
     ensures { result ≡ is_ending form part word }
 {
@@ -160,6 +162,7 @@ struct Heads {
 }
 
 // Those of the words of a line before its ending.
+#[tactic(auto, using(crate::proofs::LengthLaws::head_counted, crate::proofs::LengthLaws::heads_over, crate::proofs::LengthLaws::number_gathered, word::proofs::ChunkLaws::words_in_length))]
 #[inline(always)]
 fn heads_of(part: Part, words: &[[u8; 4]]) -> Heads
     requires { length words.now < 32 }
@@ -181,6 +184,7 @@ fn heads_of(part: Part, words: &[[u8; 4]]) -> Heads
 }
 
 // The words behind the comparison with which the words of a line before its ending begin; none where they begin with none.
+#[tactic(auto, using(crate::proofs::LengthLaws::behind_by, crate::proofs::LengthLaws::comparison_lengths, std::proofs::lemmas::List::take_rest, std::proofs::lemmas::Bool::Decides::nat_tests))]
 fn behind_comparison(words: &[[u8; 4]]) -> Option<&[[u8; 4]]>
     requires some { 0 < length words.now }
     requires few { length words.now < 32 }
@@ -198,6 +202,7 @@ fn behind_comparison(words: &[[u8; 4]]) -> Option<&[[u8; 4]]>
 }
 
 // Whether the words are comparisons, at most four.
+#[tactic(auto, using(crate::proofs::LengthLaws::fill_done, crate::proofs::LengthLaws::fill_full, crate::proofs::LengthLaws::fill_bad, word::proofs::ChunkLaws::words_in_length))]
 #[inline(always)]
 fn comparisons_sound(words: &[[u8; 4]]) -> bool
     requires { length words.now < 32 }
@@ -219,6 +224,7 @@ fn comparisons_sound(words: &[[u8; 4]]) -> bool
 /// How many words the line of the part has with which the words begin, in an image of the form: 0 where they begin with none that an
 /// accepted text for it may have.
 // As many numbers as heads: none stands twice. Each test leaves at once.
+#[tactic(auto, using(crate::proofs::LengthLaws::length_is, crate::proofs::LengthLaws::length_none, crate::proofs::LengthLaws::head_count_limit, crate::proofs::LengthLaws::rest_between, std::proofs::lemmas::Bool::Decides::nat_tests, word::proofs::ChunkLaws::words_in_length))]
 #[inline(always)]
 pub fn line_length(words: &[[u8; 4]], form: u8, part: Part) -> usize
     ensures { result ≡ line_length (line_at form part (words_in words.now)) }

@@ -1,7 +1,6 @@
 -- What holds of every decompilation: what it has written, how that is read back, and when it is refused.
-use Rattle.std.specs.Prelude.{Ok, Err}
-use Rattle.std.proofs.Common.{ℕ, ◌≤◌, ◌<◌, List, ◌≡◌, refl, sym, ap, ◌∙◌, arith, le-leb, length, Result}
-use Rattle.std.proofs.lemmas.Bool.{lt-leb}
+use Rattle.std.proofs.Common.{ℕ, ◌≤◌, ◌<◌, List, ◌≡◌, refl, sym, ap, ◌∙◌, arith, length, Result, Ok, Err}
+use Rattle.std.proofs.lemmas.Bool.Decides.{nat_tests}
 use Rattle.policy.proofs.FillLaws.{fill_delivered, fill_unchanged}
 use Rattle.policy.specs.Fault.{refusal}
 use Rattle.policy.specs.declared.fault.Fault.{Fault}
@@ -25,15 +24,9 @@ module _ (image buffer : List ℕ) where
       go : (l : Result Contents Refusal) → load image ≡ l → (output_of l (text_of (policy_in image)) buffer).answer ≡ Ok size → TextWritten image buffer size
       go (Ok c) q k =
           let d = fill_delivered (text_of (policy_in image)) buffer size k in
-          record {
-            contents = c;
-            taken = q;
-            text = rw q d.front;
-            long = rw q (ap length d.front ∙ d.long);
-            behind = rw q d.behind;
-            largest = omega (arith, d.long, text_length_for c.form (policy_in image) (taken_text image c (sym q)).acceptable);
-          }
-      go (Err r) q k = let w : ⊥ = cc in absurd w
+          let most = text_length_for c.form (policy_in image) (taken_text image c (sym q)).acceptable in
+          record { contents = c; taken = q; text = rw q d.front; long = rw q (ap length d.front ∙ d.long); behind = rw q d.behind; largest = omega (arith, d.long, most) }
+      go (Err r) q k = cc
 
   -- ---- when it is refused, and that a refusal changes no byte of the buffer
 
@@ -46,12 +39,12 @@ module _ (image buffer : List ℕ) where
     -- 15 where the text has more bytes than the buffer
     pub room_refused : length buffer < length (text_of (policy_in image)) → (decompiled image buffer).answer ≡ Err (refusal Fault.BufferTooSmall 0)
     unfolding decompiled output_of
-    room_refused h = rw (taken, lt-leb (length (text_of (policy_in image))) (length buffer) h)
+    room_refused h = grind (arith, nat_tests, taken)
 
     -- every other image is printed
     pub image_printed : length (text_of (policy_in image)) ≤ length buffer → (decompiled image buffer).answer ≡ Ok (length (text_of (policy_in image)))
     unfolding decompiled output_of
-    image_printed h = rw (taken, le-leb (length (text_of (policy_in image))) (length buffer) h)
+    image_printed h = grind (arith, nat_tests, taken)
 
     -- and so is every image, where the buffer has room for the longest text for its form
     pub never_short : Bytes image → longest_text_for contents.form ≤ length buffer → (decompiled image buffer).answer ≡ Ok (length (text_of (policy_in image)))
@@ -63,8 +56,4 @@ module _ (image buffer : List ℕ) where
 
   pub refused_unchanged : (r : Refusal) → (decompiled image buffer).answer ≡ Err r → (decompiled image buffer).buffer ≡ buffer
   unfolding decompiled output_of
-  refused_unchanged r e = go (load image) e
-    where
-      go : (l : Result Contents Refusal) → (output_of l (text_of (policy_in image)) buffer).answer ≡ Err r → (output_of l (text_of (policy_in image)) buffer).buffer ≡ buffer
-      go (Ok c) k = fill_unchanged (text_of (policy_in image)) buffer r k
-      go (Err x) k = refl
+  refused_unchanged r e = grind (arith, fill_unchanged (text_of (policy_in image)) buffer r)

@@ -1,5 +1,3 @@
-pub mod AnswerLaws
 pub mod Decompilation
 pub mod Examples
 pub mod TextLaws
-pub mod WalkLaws

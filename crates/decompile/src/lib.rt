@@ -22,6 +22,7 @@ pub const TEXT_SIZE: usize = 28224;
 
 /// The texts of the lines, one after another.
 #[inline(always)]
+#[tactic(auto, using(printer::proofs::LinkLaws::put_laws), unfolding(crate::specs::Steps::Walk::text_of_values))]
 fn put_lines<S: Sink>(sink: &mut S, lines: Walker<'_>)
     ensures { sink.new ≡ fed S.taken sink.old (text_of_values (lines_ahead lines.entry)) }
 {
@@ -31,6 +32,7 @@ fn put_lines<S: Sink>(sink: &mut S, lines: Walker<'_>)
 }
 
 /// The texts of the rules, and then those of the constraints.
+#[tactic(auto, using(printer::proofs::LinkLaws::put_laws, crate::proofs::TextLaws::first_lines), unfolding(crate::specs::Steps::Walk::parts_text))]
 fn put_text<S: Sink>(sink: &mut S, image: &Image<'_>)
     ensures { sink.new ≡ fed S.taken sink.old (text_in (image_contents image.now)) }
 {
@@ -72,6 +74,7 @@ fn write_text(out: &mut [u8], image: &Image<'_>) -> usize
 /// Writes the text of an image from the start of the buffer on, and answers how many bytes it has, or why there is none: a fault of the
 /// image, 7 to 11 or 16, or 15 where the buffer has too few bytes. A refusal leaves the buffer as it is: where the text might have no room it
 /// is counted first.
+#[tactic(auto, unfolding(crate::specs::Decompile::decompiled, crate::specs::Decompile::output_of))]
 pub fn decompile(image: &[u8], out: &mut [u8]) -> Result<usize, Refusal>
     ensures answer { result ≡ (decompiled image.now out.old).answer }
     ensures buffer { out.new ≡ (decompiled image.now out.old).buffer }

@@ -1,11 +1,9 @@
 -- What the compiler prints of an image, its words one a line, is read as those words.
-use Rattle.std.specs.Prelude.{Some}
-use Rattle.std.proofs.Common.{◌≡◌, ℕ, zero, suc, ◌+◌, ◌*◌, ◌/◌, ◌%◌, ◌^◌, ◌<◌, true, List, [], ◌∷◌, ◌++◌, map, length, subst, refl, ap, ◌∙◌, append_assoc, arith, lt-ltb, ne_eqb, fold}
+use Rattle.std.proofs.Common.{◌≡◌, ℕ, zero, suc, ◌+◌, ◌*◌, ◌/◌, ◌%◌, ◌^◌, ◌<◌, true, List, [], ◌∷◌, ◌++◌, map, length, refl, ap, ◌∙◌, append_assoc, arith, fold, Some}
 use mathlib.Core.List.{flatten}
-use Rattle.policy.specs.List.{all}
-use Rattle.policy.proofs.ListLaws.{and_in, and_out, true_false}
-use Rattle.std.proofs.lemmas.Bool.{or_from}
-use Rattle.lexer.specs.Byte.{is_line_end, hex_value, is_hex_digit}
+use Rattle.std.proofs.lemmas.Bool.Decides.{nat_tests}
+use Rattle.std.specs.List.{list_all}
+use Rattle.lexer.specs.Byte.{hex_value, is_hex_digit}
 use Rattle.lined.proofs.InputLaws.{lines_first}
 use Rattle.lined.specs.Lines.{HasNoEnd}
 use Rattle.lexer.specs.Lines.{pieces, lines_of}
@@ -24,10 +22,10 @@ digit_read : (d : ℕ) → d < 16 → (hex_value (hex_digit d) < 16) × (hex_val
 unfolding hex_value hex_digit hex_digit_value
 digit_read d h = grind arith
 
-pub digits_hex : (k w : ℕ) → all is_hex_digit (hex_digits k w) ≡ true
+pub digits_hex : (k w : ℕ) → list_all is_hex_digit (hex_digits k w) ≡ true
 unfolding hex_digits
 digits_hex zero w = refl
-digits_hex (suc k) w = and_in (lt-ltb (hex_value (hex_digit (w / 2 ^ (4 * k) % 16))) 16 (digit_read (w / 2 ^ (4 * k) % 16) (omega arith)).0) (digits_hex k w)
+digits_hex (suc k) w = grind (arith, nat_tests, digit_read (w / 2 ^ (4 * k) % 16) (omega arith), digits_hex k w)
 
 pub digits_length : (k w : ℕ) → length (hex_digits k w) ≡ k
 unfolding hex_digits
@@ -38,8 +36,7 @@ digits_number : (k v w : ℕ) → fold (λ (x b : ℕ). x * 16 + hex_value b) v 
 unfolding hex_digits
 digits_number zero v w = refl
 digits_number (suc k) v w =
-    ap (λ (x : ℕ). fold (λ (y b : ℕ). y * 16 + hex_value b) (v * 16 + x) (hex_digits k w)) (digit_read (w / 2 ^ (4 * k) % 16) (omega arith)).1
-    ∙ digits_number k (v * 16 + hex_digit_value (hex_digit (w / 2 ^ (4 * k) % 16))) w
+    let digit = w / 2 ^ (4 * k) % 16 in grind (arith, digit_read digit (omega arith), digits_number k (v * 16 + hex_digit_value (hex_digit digit)) w)
 
 pub word_number : (w : ℕ) → w < word_limit → hex_number (hex_word w) ≡ w
 word_number w h = digits_number 8 0 w ∙ word_value w h
@@ -49,12 +46,10 @@ word_read w h = word_some (hex_word w) (digits_length 8 w) (digits_hex 8 w) ∙ 
 
 -- ---- lines of digits
 
-hex_no_end : (line : List ℕ) → all is_hex_digit line ≡ true → HasNoEnd line
+hex_no_end : (line : List ℕ) → list_all is_hex_digit line ≡ true → HasNoEnd line
 unfolding hex_value
 hex_no_end [] h = refl
-hex_no_end (b ∷ line) h =
-    let p = and_out (is_hex_digit b) (all is_hex_digit line) h in
-    or_from (is_line_end b) _ (ne_eqb b 10 (λ e. true_false (subst (λ x. is_hex_digit x ≡ true) e p.0) refl)) (hex_no_end line p.1)
+hex_no_end (b ∷ line) h = grind (arith, nat_tests, hex_no_end line)
 
 line_first : (w : ℕ) (rest : List ℕ) → lines_of (word_line w ++ rest) ≡ hex_word w ∷ lines_of rest
 unfolding word_line

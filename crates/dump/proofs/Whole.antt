@@ -1,11 +1,10 @@
 -- What the lines of the whole input come to is what the definition prints for it.
-use Rattle.std.specs.Prelude.{Option, Some, None, is_ok}
-use Rattle.std.proofs.Common.{◌≡◌, ℕ, ◌%◌, ◌^◌, ◌<◌, ◌≤◌, Bool, true, false, ◌&&◌, eqb, leb, List, [], ◌∷◌, ◌++◌, length, take, sym, refl, ap, ◌∙◌, append_assoc, append-nil, arith, length-append, leb-true, Result, Ok, Err}
+use Rattle.std.proofs.Common.{◌≡◌, ℕ, ◌^◌, ◌<◌, ◌≤◌, true, List, [], ◌∷◌, ◌++◌, length, take, sym, refl, ap, ◌∙◌, append_assoc, append-nil, arith, length-append, Err, Some, None, is_ok}
+use Rattle.std.proofs.lemmas.Bool.Decides.{nat_tests}
 use Rattle.policy.specs.Fault.{fault_number, refusal}
 use Rattle.policy.specs.declared.fault.Fault.{Fault}
 use Rattle.policy.specs.declared.fault.Refusal.{Refusal}
 use Rattle.policy.proofs.FaultLaws.{fault_number_small}
-use Rattle.policy.proofs.ListLaws.{and_out, true_false}
 use Rattle.lexer.specs.Byte.{bytes}
 use Rattle.lexer.specs.Lines.{lines_of}
 use Rattle.lined.specs.Lines.{ended_lines, open_line, last_line, cut_to}
@@ -14,9 +13,9 @@ use Rattle.word.specs.Word.{Bytes, words_of, byte_list, bytes_of}
 use Rattle.word.proofs.WordLaws.{words_length, bytes_below}
 use Rattle.image.specs.Check.{well_sized, form_byte}
 use Rattle.image.specs.Held.{policy_in}
-use Rattle.image.specs.Load.{load, Contents}
+use Rattle.image.specs.Load.{load}
 use Rattle.image.proofs.LoadLaws.{size_large, load_size}
-use Rattle.exactness.specs.Exact.{RefusalOf, of_checks, of_weights, of_body}
+use Rattle.exactness.specs.Exact.{RefusalOf}
 use Rattle.exactness.proofs.Exact.{held_acceptable, refusals}
 use Rattle.printer.specs.Printed.{text_of, longest_text}
 use Rattle.printer.proofs.Printing.{text_length}
@@ -40,8 +39,7 @@ image_cut = cut_same dump_size image_answer (image_refusal_line (refusal Fault.I
 
 -- with a word more
 image_same : (x y more : List ℕ) → y ≡ take dump_size x → image_answer (x ++ more) ≡ image_answer (y ++ more)
-image_same x y more e =
-    sym (image_cut (x ++ more)) ∙ ap image_answer (sym (cut_before dump_size x more)) ∙ image_cut (take dump_size x ++ more) ∙ ap (λ l. image_answer (l ++ more)) (sym e)
+image_same x y more e = cc (image_cut (x ++ more), cut_before dump_size x more, image_cut (take dump_size x ++ more))
 
 -- ---- an image, by the loader's answer
 
@@ -51,8 +49,7 @@ refused_answer image r e = rw e refl
 
 pub taken_answer : (image : List ℕ) → is_ok (load image) ≡ true → image_answer image ≡ text_of (policy_in image)
 unfolding image_answer loaded_answer
-taken_answer image e =
-    elim (load image) as (λ l. is_ok l ≡ true → loaded_answer l (text_of (policy_in image)) ≡ text_of (policy_in image)) [ Err r ↦ λ h. absurd (true_false h refl) | Ok contents ↦ λ h. refl ] e
+taken_answer image e = grind arith
 
 -- ---- a line more
 
@@ -60,11 +57,7 @@ module _ (held : List ℕ) (n : ℕ) (line : List ℕ) where
   pub line_word : (w : ℕ) (held' : List ℕ) → word_in line ≡ Some w → held' ≡ take dump_size (held ++ byte_list w)
       → (rest : List (List ℕ)) → read_behind held (read_dump n (line ∷ rest)) ≡ read_behind held' (read_dump (next_number n) rest)
   unfolding read_dump read_word_line behind_words bytes_of
-  line_word w held' e is rest = rw e (go (read_dump (next_number n) rest))
-    where
-      go : (d : Dump) → read_behind held (behind_words (w ∷ []) d) ≡ read_behind held' d
-      go (words ws) = ap image_answer (sym (append_assoc held (byte_list w) (bytes_of ws))) ∙ image_same (held ++ byte_list w) held' (bytes_of ws) is
-      go (not_word m) = refl
+  line_word w held' e is rest = grind (arith, image_same (held ++ byte_list w) held', append_assoc held (byte_list w))
 
   pub line_none : word_in line ≡ None → (rest : List (List ℕ)) → read_behind held (read_dump n (line ∷ rest)) ≡ not_word_line (next_number n)
   unfolding read_dump read_word_line
@@ -79,22 +72,13 @@ none_left held n = ap image_answer (append-nil held)
 
 sized_few : (n : ℕ) → well_sized n ≡ true → n ≤ size_limit
 unfolding well_sized
-sized_few n e = leb-true n size_limit (and_out (leb 8 n) (leb n size_limit) (and_out (leb 8 n && leb n size_limit) (eqb (n % 4) 0) e).0).1
+sized_few n e = grind (arith, nat_tests)
 
 location_small : (image : List ℕ) (r : Refusal) → length image ≤ size_limit → RefusalOf (length (words_of image)) r → r.location < 2 ^ 64
-location_small image r h (of_checks s a b c) = omega arith
-location_small image r h (of_weights s a b) = omega arith
-location_small image r h (of_body s a b c) = omega (arith, words_length image)
+location_small image r h q = grind (arith, words_length image)
 
 refusal_small : (image : List ℕ) (r : Refusal) → load image ≡ Err r → r.location < 2 ^ 64
-refusal_small image r e = go (well_sized (length image)) refl
-  where
-    go : (b : Bool) → well_sized (length image) ≡ b → r.location < 2 ^ 64
-    go true q = location_small image r (sized_few (length image) q) (refusals image r e)
-    go false q =
-        let f : Err r ≡ Err (refusal Fault.ImageSize 0) = sym e ∙ sym (load_size image q) in
-        let p : r ≡ refusal Fault.ImageSize 0 = cc in
-        rw p (omega arith)
+refusal_small image r e = grind (arith, load_size image, sized_few (length image), refusals image r e, location_small image r)
 
 refusal_short : (r : Refusal) → r.location < 2 ^ 64 → length (image_refusal_line r) ≤ longest_text
 unfolding image_refusal_line bytes
@@ -102,11 +86,8 @@ refusal_short r l = simp length-append (omega (arith, decimal_short (fault_numbe
 
 pub image_short : (image : List ℕ) → Bytes image → length (image_answer image) ≤ longest_text
 unfolding image_answer loaded_answer
-image_short image bounded = go (load image) refl
-  where
-    go : (l : Result Contents Refusal) → load image ≡ l → length (loaded_answer l (text_of (policy_in image))) ≤ longest_text
-    go (Err r) e = refusal_short r (refusal_small image r e)
-    go (Ok contents) e = text_length (form_byte (words_of image)) (policy_in image) (held_acceptable image bounded contents e)
+image_short image bounded =
+    grind (arith, refusal_short, refusal_small image, text_length (form_byte (words_of image)) (policy_in image), held_acceptable image bounded)
 
 -- a line that is told has a number of 64 bits
 Small : Dump → Type 0
@@ -116,12 +97,7 @@ Small (not_word n) = n < 2 ^ 64
 number_small : (n : ℕ) (lines : List (List ℕ)) → Small (read_dump n lines)
 unfolding read_dump read_word_line behind_words Small
 number_small n [] = tt
-number_small n (line ∷ lines) = go (word_in line) (read_dump (next_number n) lines) (number_small (next_number n) lines)
-  where
-    go : (o : Option ℕ) (d : Dump) → Small d → Small (read_word_line n o d)
-    go None d h = omega arith
-    go (Some w) (words vs) h = tt
-    go (Some w) (not_word k) h = h
+number_small n (line ∷ lines) = grind (arith, number_small (next_number n) lines)
 
 pub line_short : (n : ℕ) → n < 2 ^ 64 → length (not_word_line n) ≤ longest_text
 unfolding not_word_line bytes
@@ -130,11 +106,7 @@ line_short n h = simp length-append (omega (arith, decimal_short n h))
 -- what is printed for any input is no longer than the longest text
 pub restored_short : (input : List ℕ) → length (restored input) ≤ longest_text
 unfolding restored dump_answer Small
-restored_short input = go (read_dump 0 (lines_of input)) (number_small 0 (lines_of input))
-  where
-    go : (d : Dump) → Small d → length (dump_answer d) ≤ longest_text
-    go (words ws) h = image_short (bytes_of ws) (bytes_below ws)
-    go (not_word n) h = line_short n h
+restored_short input = grind (arith, number_small 0 (lines_of input), image_short, bytes_below, line_short)
 
 -- ---- the whole input
 
@@ -147,4 +119,4 @@ pub all_restored : (input : List ℕ) → read_behind [] (read_dump 0 (cut_to 9 
 unfolding restored dump_answer
 all_restored input =
     ap (λ ls. read_behind [] (read_dump 0 ls)) (cut_lines 9 (omega arith) input) ∙ ap (read_behind []) (lines_cut 0 (lines_of input))
-    ∙ elim (read_dump 0 (lines_of input)) as (λ d. read_behind [] d ≡ dump_answer d) [ words ws ↦ refl | not_word n ↦ refl ]
+    ∙ grind arith

@@ -106,6 +106,7 @@ fn judged(out_of_range: bool, twice: bool) -> Result<(), Fault>
 // The tokens of the line, one after another, added to an epoch. At a byte 10 no token stands: that is malformed too.
 // A function of its own: put into its callers, it keeps what they hold in memory.
 #[inline(never)]
+#[tactic(auto, using(crate::proofs::EpochLaws::read_ended, crate::proofs::EpochLaws::read_turn, crate::proofs::EpochLaws::item_shorter, crate::proofs::EpochLaws::reading_small), unfolding(crate::specs::Steps::EpochScan::found, crate::specs::Steps::EpochScan::add_scanned, crate::specs::Epoch::add_item))]
 fn read_items(line: &[u8], epoch: &mut Epoch) -> Result<(), Fault>
     ensures { result_map_both (λ _. epoch.new) (λ fault. refusal fault 0) result ≡ epoch_from (scanned false false epoch.old.events epoch.old.readings.given epoch.old.readings.values) line.now }
 {

@@ -1,16 +1,14 @@
 -- The loader takes exactly the images of policies that an accepted text may have, refuses others at the right location, and
 -- refuses every image in which one word was changed.
-use Rattle.std.proofs.Common.{ℕ, zero, suc, ◌+◌, ◌%◌, ◌≤◌, ◌<◌, Bool, true, false, ◌&&◌, List, [], ◌∷◌, ◌++◌, map, ◌↔◌, ◌≡◌, refl, sym, ap, ap₂, ◌∙◌, subst, arith, le-leb, eq-eqb, eqb-true, length, take, take-append-drop, length-set, length-append, Result, Ok, Err}
-use Rattle.std.proofs.Math.Dec.{leb, eqb}
-use Rattle.std.proofs.Math.ListN.{get_or, set, length-map}
-use Rattle.policy.proofs.ListLaws.{and_in, and_out}
+use Rattle.std.proofs.Common.{ℕ, zero, suc, ◌+◌, ◌%◌, ◌≤◌, ◌<◌, Bool, true, false, List, [], ◌∷◌, map, ◌↔◌, ◌≡◌, refl, sym, ap, ◌∙◌, arith, eqb-true, length, take, take-append-drop, length-set, length-append, Result, Ok, Err, get_or, set}
+use Rattle.std.proofs.lemmas.Bool.Decides.{nat_tests}
+use Rattle.std.proofs.Math.ListN.{length-map}
 use Rattle.policy.specs.Fault.{fault_number, refusal}
 use Rattle.policy.specs.Limits.{Acceptable}
 use Rattle.policy.specs.Line.{PolicyLine, rule, constraint}
 use Rattle.policy.specs.Policy.{Policy}
 use Rattle.policy.specs.declared.fault.Fault.{Fault}
 use Rattle.policy.specs.declared.fault.Refusal.{Refusal}
-use Rattle.policy.specs.declared.fault.Source.{Source}
 use Rattle.exactness.proofs.ImageLaws.{below_append, below_cons, lines_below, rules_between, constraints_between, rules_size, constraints_size, content_of}
 use Rattle.image.proofs.HeldLaws.{counted, HeldParts, held_parts, taken_parts}
 use Rattle.exactness.proofs.PartLines.{lines_limit, lines_found, part_whole_exactly, part_fault_exactly, rules_kind, constraints_kind, rules_allowed, rules_back, constraints_back}
@@ -19,12 +17,12 @@ use Rattle.layout.proofs.CheckLaws.{form_below, limits_small, checks_few, size_f
 use Rattle.layout.proofs.SumLaws.{sum_set}
 use Rattle.word.proofs.WordLaws.{words_length, words_below, words_of_bytes, bytes_of_words, bytes_length}
 use Rattle.layout.proofs.HeaderLaws.{header_below, form_header, rules_header, constraints_header, header_fields}
-use Rattle.word.specs.Word.{word_limit, Bytes, words_of, word_at, bytes_of, between, Below}
+use Rattle.word.specs.Word.{word_limit, Bytes, words_of, word_at, between, Below}
 use Rattle.layout.specs.Header.{pack_header, form_of, rule_count_of, constraint_count_of}
 use Rattle.image.specs.Check.{rule_words, constraint_words, form_byte, well_sized, counts_fit, sums_to_zero, weights_right}
 use Rattle.image.specs.Held.{lines_in, policy_in}
-use Rattle.layout.specs.Layout.{known_form, check_count, rule_word_limit, constraint_word_limit, size_limit, sum, weighted_right, check_words, header_word, rule_part_words, constraint_part_words, content_words, image_words, image_of}
-use Rattle.image.specs.Lines.{lines_from, part_lines, rule_part, constraint_part, rule_lines, constraint_lines}
+use Rattle.layout.specs.Layout.{known_form, check_count, rule_word_limit, constraint_word_limit, check_words, header_word, rule_part_words, constraint_part_words, content_words, image_words, image_of}
+use Rattle.image.specs.Lines.{part_lines, rule_part, constraint_part, rule_lines, constraint_lines}
 use Rattle.image.specs.Load.{Contents, body_answer, load_words, load}
 use Rattle.exactness.specs.Exact.{IsImage, contents_of, changed, Checked, Weighed, RefusedEarly, RefusalOf, of_checks, of_weights, of_body}
 use Rattle.exactness.specs.ImageFault.{NoLineAt, ImageFault, wrong_size, unknown_form, wrong_count, wrong_sum, wrong_weights, no_rule, no_constraint}
@@ -47,20 +45,12 @@ module _ (form : ℕ) (known : known_form form ≡ true) (p : Policy) (ok : Acce
   unfolding constraint_part_words
   N_limit = omega (arith, lines_limit (map constraint p.constraints) ok.constraints_valid, length-map p.constraints constraint, ok.few_constraints)
 
-  P_small : P < 4096
-  P_small = omega (arith, P_limit, limits_small form)
-
-  N_small : N < 4096
-  N_small = omega (arith, N_limit, limits_small form)
-
-  form_small : form < 256
-  form_small = form_below form known
+  small : (P < 4096) × (N < 4096) × (form < 256)
+  small = omega (arith, P_limit, N_limit, limits_small form, form_below form known)
 
   pub content_below : Below word_limit (content_words form p)
   unfolding content_words header_word rule_part_words constraint_part_words
-  content_below =
-      below_cons word_limit (pack_header form P N) (rule_part_words p ++ constraint_part_words p) (header_below form P N form_small P_small N_small)
-      (below_append word_limit (rule_part_words p) (constraint_part_words p) (lines_below (map rule p.rules) ok.rules_valid) (lines_below (map constraint p.constraints) ok.constraints_valid))
+  content_below = grind (arith, below_cons, header_below, small, below_append, lines_below)
 
   image_below : Below word_limit (image_words form p)
   unfolding image_words
@@ -72,46 +62,36 @@ module _ (form : ℕ) (known : known_form form ≡ true) (p : Policy) (ok : Acce
 
   pub image_length : length (image_words form p) ≡ 1 + P + N + check_count form
   unfolding image_words content_words
-  image_length =
-      omega (arith, length-append (content_words form p) (check_words form (content_words form p)), length-append (rule_part_words p) (constraint_part_words p), checks_length form (content_words form p))
+  image_length = grind (arith, length-append, checks_length)
 
   pub image_size : well_sized (length (image_of form p)) ≡ true
   unfolding well_sized image_of
-  image_size =
-      let n = bytes_length (image_words form p) in
-      let k = image_length in
-      let c = checks_few form in
-      and_in (and_in (le-leb 8 (length (bytes_of (image_words form p))) (omega arith)) (le-leb (length (bytes_of (image_words form p))) size_limit (omega (arith, P_limit, N_limit, size_fits form))))
-      (eq-eqb (length (bytes_of (image_words form p)) % 4) 0 (omega arith))
+  image_size = grind (arith, nat_tests, bytes_length (image_words form p), image_length, checks_few form, P_limit, N_limit, size_fits form)
 
   first_word : get_or (image_words form p) 0 0 ≡ pack_header form P N
   unfolding image_words content_words header_word
   first_word = refl
 
   pub form_is : form_byte (image_words form p) ≡ form
-  form_is = ap form_of first_word ∙ form_header form P N form_small P_small N_small
+  form_is = ap form_of first_word ∙ form_header form P N small.2 small.0 small.1
 
   pub rules_are : rule_words (image_words form p) ≡ P
-  rules_are = ap rule_count_of first_word ∙ rules_header form P N form_small P_small N_small
+  rules_are = ap rule_count_of first_word ∙ rules_header form P N small.2 small.0 small.1
 
   pub constraints_are : constraint_words (image_words form p) ≡ N
-  constraints_are = ap constraint_count_of first_word ∙ constraints_header form P N form_small P_small N_small
+  constraints_are = ap constraint_count_of first_word ∙ constraints_header form P N small.2 small.0 small.1
 
   counts : counts_fit (image_words form p) ≡ true
   unfolding counts_fit
-  counts =
-      rw (rules_are, constraints_are, form_is)
-      (and_in (and_in (le-leb P (rule_word_limit form) P_limit) (le-leb N (constraint_word_limit form) N_limit)) (eq-eqb (length (image_words form p)) (1 + P + N + check_count form) image_length))
+  counts = rw (rules_are, constraints_are, form_is) (grind (arith, nat_tests, P_limit, N_limit, image_length))
 
   sums : sums_to_zero (image_words form p) ≡ true
   unfolding sums_to_zero image_words
-  sums = eq-eqb (sum (content_words form p ++ check_words form (content_words form p)) % word_limit) 0 (checks_sum form (content_words form p))
+  sums = rw (checks_sum form (content_words form p))
 
   weights : weights_right (image_words form p) ≡ true
   unfolding weights_right image_words
-  weights =
-      rw (form_is, rules_are, constraints_are)
-      (weighted_made form (1 + P + N) (content_words form p) (omega (arith, image_length, length-append (content_words form p) (check_words form (content_words form p)), checks_length form (content_words form p))))
+  weights = grind (arith, form_is, rules_are, constraints_are, weighted_made, image_length, length-append, checks_length)
 
   image_rules : between 1 (1 + P) (image_words form p) ≡ rule_part_words p
   unfolding image_words content_words
@@ -121,25 +101,13 @@ module _ (form : ℕ) (known : known_form form ≡ true) (p : Policy) (ok : Acce
   unfolding image_words content_words
   image_constraints = constraints_between (header_word form (rule_part_words p) (constraint_part_words p)) (rule_part_words p) (constraint_part_words p) (check_words form (content_words form p)) P N refl refl
 
-  rules_found : lines_from form Part.Rules 128 1 (rule_part_words p) ≡ Ok (map rule p.rules)
-  unfolding rule_part_words
-  rules_found = lines_found form Part.Rules (map rule p.rules) 128 1 (rules_kind form p.rules ok.rules_allowed) ok.rules_valid (omega (arith, length-map p.rules rule, ok.few_rules))
-
-  constraints_found : (at : ℕ) → lines_from form Part.Constraints 64 at (constraint_part_words p) ≡ Ok (map constraint p.constraints)
-  unfolding constraint_part_words
-  constraints_found at = lines_found form Part.Constraints (map constraint p.constraints) 64 at (constraints_kind form p.constraints) ok.constraints_valid (omega (arith, length-map p.constraints constraint, ok.few_constraints))
-
   rule_lines_is : rule_lines (image_words form p) ≡ Ok (map rule p.rules)
-  unfolding part_lines
-  rule_lines_is =
-      ap₂ (λ (f k : ℕ). lines_from f Part.Rules 128 1 (between 1 (1 + k) (image_words form p))) form_is rules_are ∙ ap (lines_from form Part.Rules 128 1) image_rules ∙ rules_found
+  unfolding part_lines rule_part_words
+  rule_lines_is = rw (form_is, rules_are, image_rules) (lines_found form Part.Rules (map rule p.rules) 128 1 (rules_kind form p.rules ok.rules_allowed) ok.rules_valid (omega (arith, length-map p.rules rule, ok.few_rules)))
 
   constraint_lines_is : constraint_lines (image_words form p) ≡ Ok (map constraint p.constraints)
-  unfolding part_lines
-  constraint_lines_is =
-      ap (λ (f : ℕ). lines_from f Part.Constraints 64 (1 + rule_words (image_words form p)) (constraint_part (image_words form p))) form_is
-      ∙ ap₂ (λ (k m : ℕ). lines_from form Part.Constraints 64 (1 + k) (between (1 + k) (1 + k + m) (image_words form p))) rules_are constraints_are
-      ∙ ap (lines_from form Part.Constraints 64 (1 + P)) image_constraints ∙ constraints_found (1 + P)
+  unfolding part_lines constraint_part_words
+  constraint_lines_is = grind (arith, form_is, rules_are, constraints_are, image_constraints, lines_found, constraints_kind, length-map)
 
   -- the loader takes the image of every acceptable policy, and says how many words and lines it has
   pub image_taken : load (image_of form p) ≡ Ok (contents_of form p)
@@ -150,9 +118,7 @@ module _ (form : ℕ) (known : known_form form ≡ true) (p : Policy) (ok : Acce
   -- the policy that it then holds is that policy
   pub image_holds : policy_in (image_of form p) ≡ p
   unfolding policy_in lines_in
-  image_holds =
-      rw (image_words_is, rule_lines_is, constraint_lines_is)
-      (λ i. record { rules = rules_back p.rules i; constraints = constraints_back p.constraints i })
+  image_holds = grind (arith, image_words_is, rule_lines_is, constraint_lines_is, rules_back, constraints_back)
 
 -- ---- what the loader answers, taken apart
 
@@ -165,40 +131,16 @@ pub data Answered (bytes : List ℕ) : Type 0 where
   weighted : Checked bytes → weights_right (words_of bytes) ≡ false → load bytes ≡ Err (refusal Fault.ImageWeightedSum 0) → Answered bytes
   late : Weighed bytes → load bytes ≡ body_answer (form_byte (words_of bytes)) (rule_part (words_of bytes)) (constraint_part (words_of bytes)) (rule_lines (words_of bytes)) (constraint_lines (words_of bytes)) → Answered bytes
 
+answered_early : (bytes : List ℕ) (fault : Fault) → 7 ≤ fault_number fault → fault_number fault ≤ 10 → load bytes ≡ Err (refusal fault 0) → Answered bytes
+answered_early bytes fault from upto e = early (record { fault = fault; refused = e; from = from; upto = upto })
+
 pub answered : (bytes : List ℕ) → Answered bytes
 unfolding load load_words
-answered bytes = size (well_sized (length bytes)) refl
-  where
-    ws : List ℕ
-    ws = words_of bytes
-
-    weigh : Checked bytes → (b : Bool) → weights_right ws ≡ b → Answered bytes
-    weigh c true q = late (record { checked = c; weights = q }) (rw (c.size, c.form, c.count, c.check, q))
-    weigh c false q = weighted c q (rw (c.size, c.form, c.count, c.check, q))
-
-    check : well_sized (length bytes) ≡ true → known_form (form_byte ws) ≡ true → counts_fit ws ≡ true → (b : Bool) → sums_to_zero ws ≡ b → Answered bytes
-    check s f c true q = weigh (record { size = s; form = f; count = c; check = q }) (weights_right ws) refl
-    check s f c false q = early (record { fault = Fault.ImageSum; refused = rw (s, f, c, q); from = omega arith; upto = omega arith })
-
-    count : well_sized (length bytes) ≡ true → known_form (form_byte ws) ≡ true → (b : Bool) → counts_fit ws ≡ b → Answered bytes
-    count s f true q = check s f q (sums_to_zero ws) refl
-    count s f false q = early (record { fault = Fault.ImageCount; refused = rw (s, f, q); from = omega arith; upto = omega arith })
-
-    form : well_sized (length bytes) ≡ true → (b : Bool) → known_form (form_byte ws) ≡ b → Answered bytes
-    form s true q = count s q (counts_fit ws) refl
-    form s false q = early (record { fault = Fault.ImageForm; refused = rw (s, q); from = omega arith; upto = omega arith })
-
-    size : (b : Bool) → well_sized (length bytes) ≡ b → Answered bytes
-    size true q = form q (known_form (form_byte ws)) refl
-    size false q = early (record { fault = Fault.ImageSize; refused = rw q; from = omega arith; upto = omega arith })
+answered bytes = grind (arith, answered_early bytes Fault.ImageSize, answered_early bytes Fault.ImageForm, answered_early bytes Fault.ImageCount, answered_early bytes Fault.ImageSum, weighted, late)
 
 -- an image that is taken passed all checks, and both parts are lines
 pub record Took (bytes : List ℕ) (contents : Contents) : Type 0 where
   pub checked : Weighed bytes
-  pub rules : List PolicyLine
-  pub constraints : List PolicyLine
-  pub rules_whole : rule_lines (words_of bytes) ≡ Ok rules
-  pub constraints_whole : constraint_lines (words_of bytes) ≡ Ok constraints
   pub form_is : contents.form ≡ form_byte (words_of bytes)
   pub rules_are : contents.parts.rules ≡ rule_part (words_of bytes)
   pub constraints_are : contents.parts.constraints ≡ constraint_part (words_of bytes)
@@ -208,16 +150,16 @@ took bytes contents e =
     let t = taken_parts bytes contents e in
     record {
       checked = record { checked = record { size = t.sized; form = t.known; count = t.counted; check = t.summed }; weights = t.weighed };
-      rules = t.rules;
-      constraints = t.constraints;
-      rules_whole = t.rules_whole;
-      constraints_whole = t.constraints_whole;
-      form_is = ap (λ (k : Contents). k.form) t.same;
-      rules_are = ap (λ (k : Contents). k.parts.rules) t.same;
-      constraints_are = ap (λ (k : Contents). k.parts.constraints) t.same;
+      form_is = rw t.same;
+      rules_are = rw t.same;
+      constraints_are = rw t.same;
     }
 
 -- ---- whatever is taken is the image of the policy that it holds
+
+pub whole_words : (n : ℕ) → well_sized n ≡ true → n % 4 ≡ 0
+unfolding well_sized
+whole_words n e = grind (arith, nat_tests)
 
 module _ (bytes : List ℕ) (bounded : Bytes bytes) (contents : Contents) (taken : load bytes ≡ Ok contents) where
   t : Took bytes contents
@@ -226,86 +168,31 @@ module _ (bytes : List ℕ) (bounded : Bytes bytes) (contents : Contents) (taken
   h : HeldParts bytes contents
   h = held_parts bytes contents taken
 
-  ws : List ℕ
-  ws = words_of bytes
-
   -- its lines are valid, and not too many
   pub held_acceptable : Acceptable (form_byte (words_of bytes)) (policy_in bytes)
-  held_acceptable =
-      record {
-        rules_allowed = rules_allowed (form_byte (words_of bytes)) (policy_in bytes).rules (rw h.form_is at h.rule_part_is.kind);
-        rules_valid = h.rule_part_is.sound;
-        constraints_valid = h.constraint_part_is.sound;
-        few_rules = omega (arith, length-map (policy_in bytes).rules rule, h.rule_part_is.few);
-        few_constraints = omega (arith, length-map (policy_in bytes).constraints constraint, h.constraint_part_is.few);
-      }
+  held_acceptable = grind (arith, rules_allowed, h, length-map)
 
-  form : ℕ
-  form = form_byte (words_of bytes)
+  abbrev read : List ℕ
+  read = words_of bytes
 
-  rule_size : ℕ
-  rule_size = rule_words (words_of bytes)
+  abbrev behind : ℕ
+  behind = 1 + rule_words read + constraint_words read
 
-  constraint_size : ℕ
-  constraint_size = constraint_words (words_of bytes)
+  content_same : content_words (form_byte read) (policy_in bytes) ≡ take behind read
+  unfolding content_words header_word rule_part_words constraint_part_words
+  content_same =
+      let room : behind ≤ length read = omega (arith, h.size) in
+      rw (← h.rule_part_is.words, h.rules_are, ← h.constraint_part_is.words, h.constraints_are, rules_size read (rule_words read) (constraint_words read) room, constraints_size read (rule_words read) (constraint_words read) room, header_fields (get_or read 0 0) (words_below bytes bounded 0))
+      (sym (content_of read (rule_words read) (constraint_words read) room))
 
-  R : List ℕ
-  R = between 1 (1 + rule_size) ws
-
-  C : List ℕ
-  C = between (1 + rule_size) (1 + rule_size + constraint_size) ws
-
-  counted_all : length ws ≡ 1 + rule_size + constraint_size + check_count form
-  unfolding ws form rule_size constraint_size
-  counted_all = h.size
-
-  rules_same : rule_part_words (policy_in bytes) ≡ R
-  unfolding rule_part_words R rule_size ws
-  rules_same = sym h.rule_part_is.words ∙ h.rules_are
-
-  constraints_same : constraint_part_words (policy_in bytes) ≡ C
-  unfolding constraint_part_words C rule_size constraint_size ws
-  constraints_same = sym h.constraint_part_is.words ∙ h.constraints_are
-
-  words_small : Below word_limit ws
-  unfolding ws
-  words_small = words_below bytes bounded
-
-  header_same : pack_header form (length R) (length C) ≡ get_or ws 0 0
-  unfolding R C form rule_size constraint_size ws
-  header_same =
-      let room : 1 + rule_words (words_of bytes) + constraint_words (words_of bytes) ≤ length (words_of bytes) = omega (arith, h.size) in
-      ap₂ (λ (a b : ℕ). pack_header (form_byte (words_of bytes)) a b) (rules_size (words_of bytes) (rule_words (words_of bytes)) (constraint_words (words_of bytes)) room) (constraints_size (words_of bytes) (rule_words (words_of bytes)) (constraint_words (words_of bytes)) room)
-      ∙ header_fields (get_or (words_of bytes) 0 0) (words_small 0)
-
-  content : take (1 + rule_size + constraint_size) ws ≡ get_or ws 0 0 ∷ R ++ C
-  unfolding R C
-  content = content_of ws rule_size constraint_size (omega (arith, counted_all))
-
-  content_same : content_words form (policy_in bytes) ≡ take (1 + rule_size + constraint_size) ws
-  unfolding content_words header_word
-  content_same = rw (rules_same, constraints_same) (ap (λ (h : ℕ). h ∷ R ++ C) header_same ∙ sym content)
-
-  zero_sum : sum ws % word_limit ≡ 0
-  unfolding sums_to_zero ws
-  zero_sum = eqb-true (sum (words_of bytes) % word_limit) 0 t.checked.checked.check
-
-  right : weighted_right form (1 + rule_size + constraint_size) ws ≡ true
-  unfolding weights_right ws form rule_size constraint_size
-  right = t.checked.weights
-
-  whole_same : image_words form (policy_in bytes) ≡ ws
-  unfolding image_words
-  whole_same =
-      let n : ℕ = 1 + rule_size + constraint_size in
-      rw content_same (ap (λ (x : List ℕ). take n ws ++ x) (sym (checks_found form n ws words_small counted_all zero_sum right)) ∙ take-append-drop n ws)
+  whole_same : image_words (form_byte read) (policy_in bytes) ≡ read
+  unfolding image_words sums_to_zero weights_right
+  whole_same = grind (arith, eqb-true, t, content_same, checks_found, words_below, h, take-append-drop)
 
   -- it is the image of the policy that it holds, byte for byte
   pub held_image : image_of (form_byte (words_of bytes)) (policy_in bytes) ≡ bytes
-  unfolding image_of well_sized ws form
-  held_image =
-      ap bytes_of whole_same
-      ∙ bytes_of_words bytes bounded (eqb-true (length bytes % 4) 0 (and_out (leb 8 (length bytes) && leb (length bytes) size_limit) (eqb (length bytes % 4) 0) t.checked.checked.size).1)
+  unfolding image_of
+  held_image = rw whole_same (bytes_of_words bytes bounded (whole_words (length bytes) t.checked.checked.size))
 
   -- and of a form that is known
   pub held_form : known_form (form_byte (words_of bytes)) ≡ true
@@ -360,114 +247,60 @@ module _ (bytes : List ℕ) where
     held = words_of bytes
 
     told : (s : Refusal) → ImageFault bytes s → ImageFault bytes r
-    told s f =
-        let e : refused_with s ≡ refused_with r = sym (fault_given s f) ∙ refused in
-        let same : s ≡ r = cc in
-        subst (ImageFault bytes) same f
+    told s f = grind (arith, fault_given)
 
     in_lines : Weighed bytes → (x y : Result (List PolicyLine) ℕ) → rule_lines held ≡ x → constraint_lines held ≡ y → ImageFault bytes r
     unfolding load load_words body_answer
     in_lines c (Err n) y p q = told _ (no_rule c n ((rules_refused held n).0 p))
     in_lines c (Ok rs) (Err n) p q = told _ (no_constraint c rs ((rules_whole held rs).0 p) n ((constraints_refused held n).0 q))
-    in_lines c (Ok rs) (Ok cs) p q =
-        let taken : load bytes ≡ body_answer (form_byte held) (rule_part held) (constraint_part held) (Ok rs) (Ok cs) = rw (c.checked.size, c.checked.form, c.checked.count, c.checked.check, c.weights, p, q) in
-        let e : body_answer (form_byte held) (rule_part held) (constraint_part held) (Ok rs) (Ok cs) ≡ Err r = sym taken ∙ refused in
-        let z : ◌≡◌ {A = ℕ} 0 1 = cc in
-        absurd (omega arith)
+    in_lines c (Ok rs) (Ok cs) p q = absurd (cc (rw (c.checked.size, c.checked.form, c.checked.count, c.checked.check, c.weights, p, q) at refused))
 
-    in_weights : Checked bytes → (b : Bool) → weights_right held ≡ b → ImageFault bytes r
-    in_weights c true q = in_lines (record { checked = c; weights = q }) (rule_lines held) (constraint_lines held) refl refl
-    in_weights c false q = told _ (wrong_weights c q)
-
-    in_sum : well_sized (length bytes) ≡ true → known_form (form_byte held) ≡ true → counts_fit held ≡ true → (b : Bool) → sums_to_zero held ≡ b → ImageFault bytes r
-    in_sum s f c true q = in_weights (record { size = s; form = f; count = c; check = q }) (weights_right held) refl
-    in_sum s f c false q = told _ (wrong_sum s f c q)
-
-    in_count : well_sized (length bytes) ≡ true → known_form (form_byte held) ≡ true → (b : Bool) → counts_fit held ≡ b → ImageFault bytes r
-    in_count s f true q = in_sum s f q (sums_to_zero held) refl
-    in_count s f false q = told _ (wrong_count s f q)
-
-    in_form : well_sized (length bytes) ≡ true → (b : Bool) → known_form (form_byte held) ≡ b → ImageFault bytes r
-    in_form s true q = in_count s q (counts_fit held) refl
-    in_form s false q = told _ (unknown_form s q)
-
-    fault_found : (b : Bool) → well_sized (length bytes) ≡ b → ImageFault bytes r
-    fault_found true q = in_form q (known_form (form_byte held)) refl
-    fault_found false q = told _ (wrong_size q)
+    fault_found : (size form count check weigh : Bool) → well_sized (length bytes) ≡ size → known_form (form_byte held) ≡ form → counts_fit held ≡ count → sums_to_zero held ≡ check → weights_right held ≡ weigh → ImageFault bytes r
+    fault_found false form count check weigh s f c q w = told _ (wrong_size s)
+    fault_found true false count check weigh s f c q w = told _ (unknown_form s f)
+    fault_found true true false check weigh s f c q w = told _ (wrong_count s f c)
+    fault_found true true true false weigh s f c q w = told _ (wrong_sum s f c q)
+    fault_found true true true true false s f c q w = told _ (wrong_weights (record { size = s; form = f; count = c; check = q }) w)
+    fault_found true true true true true s f c q w = in_lines (record { checked = record { size = s; form = f; count = c; check = q }; weights = w }) (rule_lines held) (constraint_lines held) refl refl
 
   pub image_refused_exactly : (r : Refusal) → (load bytes ≡ Err r) ↔ ImageFault bytes r
-  image_refused_exactly r = (λ e. fault_found r e (well_sized (length bytes)) refl, fault_given r)
+  image_refused_exactly r = (λ e. fault_found r e _ _ _ _ _ refl refl refl refl refl, fault_given r)
 
   -- and no other fault
   pub one_image_fault : (r s : Refusal) → ImageFault bytes r → ImageFault bytes s → r ≡ s
-  one_image_fault r s a b = let e : refused_with r ≡ refused_with s = sym (fault_given r a) ∙ fault_given s b in cc
+  one_image_fault r s a b = cc (fault_given r a, fault_given s b)
 
 -- fault 16 is given exactly where the checks 7 to 10 pass and the weighted sum is wrong
 pub weights_exactly : (bytes : List ℕ) → (load bytes ≡ Err (refusal Fault.ImageWeightedSum 0)) ↔ (Checked bytes × (weights_right (words_of bytes) ≡ false))
-unfolding body_answer
-weights_exactly bytes = (λ e. go e (answered bytes), λ x. fault_given bytes _ (wrong_weights x.0 x.1))
+weights_exactly bytes = (λ e. go _ ((image_refused_exactly bytes _).0 e) refl, λ x. fault_given bytes _ (wrong_weights x.0 x.1))
   where
-    number : Refusal → ℕ
-    number x = fault_number x.fault
-
-    body : (x y : Result (List PolicyLine) ℕ) → body_answer (form_byte (words_of bytes)) (rule_part (words_of bytes)) (constraint_part (words_of bytes)) x y ≡ Err (refusal Fault.ImageWeightedSum 0) → ⊥
-    body (Err n) y q = let k : refusal Fault.ImageBody n ≡ refusal Fault.ImageWeightedSum 0 = cc in omega (arith, ap number k)
-    body (Ok rs) (Err n) q = let k : refusal Fault.ImageBody n ≡ refusal Fault.ImageWeightedSum 0 = cc in omega (arith, ap number k)
-    body (Ok rs) (Ok cs) q = let z : ◌≡◌ {A = ℕ} 0 1 = cc in omega arith
-
-    go : load bytes ≡ Err (refusal Fault.ImageWeightedSum 0) → Answered bytes → Checked bytes × (weights_right (words_of bytes) ≡ false)
-    go e (weighted c w q) = (c, w)
-    go e (early x) =
-        let a : refused_with (refusal Fault.ImageWeightedSum 0) ≡ refused_with (refusal x.fault 0) = sym e ∙ x.refused in
-        let k : refusal Fault.ImageWeightedSum 0 ≡ refusal x.fault 0 = cc in
-        absurd (omega (arith, ap number k, x.upto))
-    go e (late c q) = absurd (body (rule_lines (words_of bytes)) (constraint_lines (words_of bytes)) (sym q ∙ e))
+    go : (r : Refusal) → ImageFault bytes r → fault_number r.fault ≡ 16 → Checked bytes × (weights_right (words_of bytes) ≡ false)
+    go r (wrong_weights c w) n = (c, w)
+    go r f n = absurd (omega arith)
 
 -- ---- which refusals there are
 
+-- a location in words that begin at the index `from` lies among them
+among : (form : ℕ) (part : Part) (room from location : ℕ) (ws : List ℕ) → NoLineAt form part room from ws location → (from ≤ location) × (location < from + length ws)
+among form part room from location ws h = omega (arith, h.located, h.more, ap length h.words, length-append h.front h.rest)
+
+part_sizes : (words : List ℕ) → counts_fit words ≡ true → (1 + length (rule_part words) < length words) × (1 + rule_words words + length (constraint_part words) < length words)
+part_sizes words c =
+    let k = counted words c in
+    let room : 1 + rule_words words + constraint_words words ≤ length words = omega (arith, k.all) in
+    omega (arith, k.all, checks_few (form_byte words), rules_size words (rule_words words) (constraint_words words) room, constraints_size words (rule_words words) (constraint_words words) room)
+
 pub refusals : (bytes : List ℕ) (r : Refusal) → load bytes ≡ Err r → RefusalOf (length (words_of bytes)) r
-unfolding body_answer
-refusals bytes r e = go (answered bytes)
+refusals bytes r e = go r ((image_refused_exactly bytes r).0 e)
   where
-    ws' : List ℕ
-    ws' = words_of bytes
-
-    number : Refusal → ℕ
-    number x = fault_number x.fault
-
-    -- a location in words that begin at the index `from` lies among them
-    among : (form : ℕ) (part : Part) (room from location : ℕ) (ws : List ℕ) → NoLineAt form part room from ws location → (from ≤ location) × (location < from + length ws)
-    among form part room from location ws h = (omega (arith, h.located), omega (arith, h.located, h.more, ap length h.words, length-append h.front h.rest))
-
-    source_of : (n : ℕ) → refused_with (refusal Fault.ImageBody n) ≡ refused_with r → r.source ≡ Source.Neither
-    source_of n q = let k : refusal Fault.ImageBody n ≡ r = cc in ap (λ (x : Refusal). x.source) (sym k)
-
-    given : (n : ℕ) → refused_with (refusal Fault.ImageBody n) ≡ refused_with r → 1 ≤ n → n < length ws' → RefusalOf (length ws') r
-    given n q a b =
-        let k : refusal Fault.ImageBody n ≡ r = cc in
-        of_body (source_of n q) (sym (ap number k)) (omega (arith, ap (λ (x : Refusal). x.location) k)) (omega (arith, ap (λ (x : Refusal). x.location) k))
-
-    body : Weighed bytes → (x y : Result (List PolicyLine) ℕ) → rule_lines ws' ≡ x → constraint_lines ws' ≡ y → body_answer (form_byte ws') (rule_part ws') (constraint_part ws') x y ≡ Err r → RefusalOf (length ws') r
-    body c (Err n) y p q s =
-        let k = counted ws' c.checked.count in
-        let a = among _ Part.Rules 128 1 n (rule_part ws') ((rules_refused ws' n).0 p) in
-        given n s a.0 (omega (arith, a.1, rules_size ws' (rule_words ws') (constraint_words ws') (omega (arith, k.all)), k.all, checks_few (form_byte ws')))
-    body c (Ok rs) (Err n) p q s =
-        let k = counted ws' c.checked.count in
-        let a = among _ Part.Constraints 64 (1 + rule_words ws') n (constraint_part ws') ((constraints_refused ws' n).0 q) in
-        given n s (omega (arith, a.0)) (omega (arith, a.1, constraints_size ws' (rule_words ws') (constraint_words ws') (omega (arith, k.all)), k.all, checks_few (form_byte ws')))
-    body c (Ok rs) (Ok cs) p q s = let z : ◌≡◌ {A = ℕ} 0 1 = cc in absurd (omega arith)
-
-    go : Answered bytes → RefusalOf (length ws') r
-    go (early x) =
-        let a : refused_with r ≡ refused_with (refusal x.fault 0) = sym e ∙ x.refused in
-        let k : r ≡ refusal x.fault 0 = cc in
-        of_checks (ap (λ (y : Refusal). y.source) k) (omega (arith, ap number k, x.from)) (omega (arith, ap number k, x.upto)) (ap (λ (y : Refusal). y.location) k)
-    go (weighted c w x) =
-        let a : refused_with r ≡ refused_with (refusal Fault.ImageWeightedSum 0) = sym e ∙ x in
-        let k : r ≡ refusal Fault.ImageWeightedSum 0 = cc in
-        of_weights (ap (λ (y : Refusal). y.source) k) (ap number k) (ap (λ (y : Refusal). y.location) k)
-    go (late c q) = body c (rule_lines ws') (constraint_lines ws') refl refl (sym q ∙ e)
+    go : (s : Refusal) → ImageFault bytes s → RefusalOf (length (words_of bytes)) s
+    go s (wrong_size _) = of_checks refl (omega arith) (omega arith) refl
+    go s (unknown_form _ _) = of_checks refl (omega arith) (omega arith) refl
+    go s (wrong_count _ _ _) = of_checks refl (omega arith) (omega arith) refl
+    go s (wrong_sum _ _ _ _) = of_checks refl (omega arith) (omega arith) refl
+    go s (wrong_weights _ _) = of_weights refl refl refl
+    go s (no_rule c n h) = let a = among _ _ _ _ n _ h in let z = part_sizes _ c.checked.count in of_body refl refl (omega (arith, a)) (omega (arith, a, z))
+    go s (no_constraint c rs w n h) = let a = among _ _ _ _ n _ h in let z = part_sizes _ c.checked.count in of_body refl refl (omega (arith, a)) (omega (arith, a, z))
 
 -- ---- one word changed
 
@@ -491,19 +324,4 @@ same_word s s' old v a b e h k = omega arith
 -- bytes that pass the checks 7 to 10, with any other value in the location of one word, are refused under one of them
 pub one_word_changed : (bytes : List ℕ) → Bytes bytes → Checked bytes → (i v : ℕ) → i < length (words_of bytes) → v < word_limit → ¬ (v ≡ word_at bytes i) → RefusedEarly (load (changed bytes i v))
 unfolding sums_to_zero
-one_word_changed bytes bounded ok i v l small other = go (answered (changed bytes i v))
-  where
-    words : List ℕ
-    words = set (words_of bytes) i v
-
-    differs : Checked (changed bytes i v) → ⊥
-    differs c =
-        let e = changed_words bytes bounded i v small in
-        let a : sum words % word_limit ≡ 0 = ap (λ (ws : List ℕ). sum ws % word_limit) (sym e) ∙ eqb-true (sum (words_of (changed bytes i v)) % word_limit) 0 c.check in
-        let b : sum (words_of bytes) % word_limit ≡ 0 = eqb-true (sum (words_of bytes) % word_limit) 0 ok.check in
-        other (same_word (sum (words_of bytes)) (sum words) (word_at bytes i) v a b (sum_set (words_of bytes) i v l) small (words_below bytes bounded i))
-
-    go : Answered (changed bytes i v) → RefusedEarly (load (changed bytes i v))
-    go (early r) = r
-    go (weighted c w e) = absurd (differs c)
-    go (late c q) = absurd (differs c.checked)
+one_word_changed bytes bounded ok i v l small other = grind (arith, answered, eqb-true, changed_words, same_word, sum_set, words_below)

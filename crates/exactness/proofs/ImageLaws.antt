@@ -1,18 +1,17 @@
 -- Laws of whole images: that their words are words, and their parts.
-use Rattle.std.proofs.Common.{ℕ, zero, suc, ◌+◌, ◌<◌, ◌≤◌, true, List, [], ◌∷◌, ◌++◌, append_assoc, ◌≡◌, sym, ap, ap₂, ◌∙◌, arith, ltb-true, length, take, drop, length-append, length-take, length-drop, take-append-drop, drop-cons, take_at, drop_at, take-take, get_or-take}
-use Rattle.std.proofs.Math.ListN.{get_or}
+use Rattle.std.proofs.Common.{ℕ, zero, suc, ◌+◌, ◌<◌, ◌≤◌, true, List, [], ◌∷◌, ◌++◌, append_assoc, ◌≡◌, sym, ◌∙◌, arith, ltb-true, length, take, length-append, length-take, length-drop, take-append-drop, drop-cons, take_at, drop_at, take-take, get_or-take, get_or}
 use Rattle.policy.proofs.ListLaws.{and_out}
-use Rattle.policy.specs.Limits.{valid, test_number, comparison_in_range, ending_in_range}
-use Rattle.operation.specs.Parts.{test_word, comparison_words, ending_word}
+use Rattle.policy.specs.Limits.{valid, comparison_in_range, ending_in_range}
+use Rattle.operation.specs.Parts.{comparison_words, ending_word}
 use Rattle.word.specs.Word.{word_limit, between, Below}
 use Rattle.layout.specs.Layout.{condition_words, part_words, line_words, lines_words}
 use Rattle.layout.specs.Steps.Size.{comparisons_size, condition_size}
-use Rattle.policy.specs.Line.{PolicyLine, heads_of, comparisons_of, ending_of}
-use Rattle.policy.specs.List.{all}
+use Rattle.policy.specs.Line.{PolicyLine}
+use Rattle.std.specs.List.{list_all}
 use Rattle.policy.specs.declared.comparison.Comparison.{Comparison}
 use Rattle.policy.specs.declared.line.Ending.{Ending}
 use Rattle.policy.specs.declared.line.Test.{Test}
-use Rattle.operation.proofs.PartsLaws.{Written, with_constant, with_reading, written, test_below, ending_below}
+use Rattle.operation.proofs.PartsLaws.{Written, written, test_below, ending_below}
 use Rattle.layout.proofs.LayoutLaws.{condition_length, part_length, condition_size_limit}
 use Rattle.policy.proofs.ValidLaws.{valid_out, test_in_range}
 
@@ -31,39 +30,29 @@ pub below_none : Below word_limit []
 below_none i = omega arith
 
 comparison_below : (c : Comparison) (k : ℕ) → Written c k → Below word_limit (comparison_words c k)
-comparison_below c k (with_constant w v q o s b h z) = rw q (below_cons word_limit w (v ∷ []) h.limit (below_cons word_limit v [] z.1 below_none))
-comparison_below c k (with_reading w q o s b h z) = rw q (below_cons word_limit w [] h.limit below_none)
+comparison_below c k h = grind arith
 
-condition_below : (cs : List Comparison) (e : Ending) → all comparison_in_range cs ≡ true → ending_in_range e ≡ true → condition_size cs < 32 → Below word_limit (condition_words cs e)
+condition_below : (cs : List Comparison) (e : Ending) → list_all comparison_in_range cs ≡ true → ending_in_range e ≡ true → condition_size cs < 32 → Below word_limit (condition_words cs e)
 unfolding condition_words condition_size comparisons_size
 condition_below [] e r h l = below_cons word_limit (ending_word e) [] (ending_below e h) below_none
 condition_below (c ∷ cs) e r h l =
-    let p = and_out (comparison_in_range c) (all comparison_in_range cs) r in
+    let p = and_out (comparison_in_range c) (list_all comparison_in_range cs) r in
     below_append word_limit (comparison_words c (length (condition_words cs e))) (condition_words cs e)
     (comparison_below c (length (condition_words cs e)) (written c (length (condition_words cs e)) p.0 (omega (arith, condition_length cs e)))) (condition_below cs e p.1 h (omega arith))
 
-parts_below : (ts : List Test) (cs : List Comparison) (e : Ending) → all test_in_range ts ≡ true → all comparison_in_range cs ≡ true → ending_in_range e ≡ true → length ts + condition_size cs < 32 → Below word_limit (part_words ts cs e)
+parts_below : (ts : List Test) (cs : List Comparison) (e : Ending) → list_all test_in_range ts ≡ true → list_all comparison_in_range cs ≡ true → ending_in_range e ≡ true → length ts + condition_size cs < 32 → Below word_limit (part_words ts cs e)
 unfolding part_words
 parts_below [] cs e t r h l = condition_below cs e r h (omega arith)
-parts_below (x ∷ xs) cs e t r h l =
-    let p = and_out (test_in_range x) (all test_in_range xs) t in
-    below_cons word_limit (test_word x (length (part_words xs cs e))) (part_words xs cs e)
-    (test_below x (length (part_words xs cs e)) (ltb-true (test_number x) 64 p.0) (omega (arith, part_length xs cs e))) (parts_below xs cs e p.1 r h (omega arith))
+parts_below (x ∷ xs) cs e t r h l = grind (arith, and_out, test_in_range, below_cons, test_below, ltb-true, part_length, parts_below xs cs e)
 
 line_below : (l : PolicyLine) → valid l ≡ true → Below word_limit (line_words l)
 unfolding line_words
-line_below l v =
-    let h = valid_out l v in
-    let a = h.few_tests in
-    let b = h.few_comparisons in
-    parts_below (heads_of l) (comparisons_of l) (ending_of l) h.tests h.comparisons h.ending (omega (arith, condition_size_limit (comparisons_of l)))
+line_below l v = grind (arith, valid_out, parts_below, condition_size_limit)
 
-pub lines_below : (ls : List PolicyLine) → all valid ls ≡ true → Below word_limit (lines_words ls)
+pub lines_below : (ls : List PolicyLine) → list_all valid ls ≡ true → Below word_limit (lines_words ls)
 unfolding lines_words
 lines_below [] v = below_none
-lines_below (l ∷ ls) v =
-    let p = and_out (valid l) (all valid ls) v in
-    below_append word_limit (line_words l) (lines_words ls) (line_below l p.0) (lines_below ls p.1)
+lines_below (l ∷ ls) v = grind (arith, and_out, below_append, line_below, lines_below ls)
 
 -- ---- the parts of an image
 
@@ -73,22 +62,13 @@ module _ (h : ℕ) (rules constraints checks : List ℕ) (P N : ℕ) (p : length
 
   pub rules_between : between 1 (1 + P) image ≡ rules
   unfolding between
-  rules_between =
-      let s : 1 + P ≡ suc P = omega arith in
-      ap (λ (k : ℕ). drop 1 (take k image)) s ∙ ap (take P) (append_assoc rules constraints checks) ∙ take_at rules (constraints ++ checks) P p
+  rules_between = let s : 1 + P ≡ suc P = omega arith in rw (s, append_assoc rules constraints checks) (take_at rules (constraints ++ checks) P p)
 
   pub constraints_between : between (1 + P) (1 + P + N) image ≡ constraints
   unfolding between
-  constraints_between =
-      let s : 1 + P ≡ suc P = omega arith in
-      let t : 1 + P + N ≡ suc (P + N) = omega arith in
-      let m : length (rules ++ constraints) ≡ P + N = omega (arith, length-append rules constraints) in
-      ap₂ (λ (i j : ℕ). drop i (take j image)) s t ∙ ap (drop P) (take_at (rules ++ constraints) checks (P + N) m) ∙ drop_at rules constraints P p
+  constraints_between = grind (arith, take_at, length-append, drop_at)
 
 -- ---- an image from its parts
-
-first_of : (ws : List ℕ) → 0 < length ws → ws ≡ get_or ws 0 0 ∷ drop 1 ws
-first_of ws h = drop-cons ws 0 0 h
 
 module _ (ws : List ℕ) (P N : ℕ) (size : 1 + P + N ≤ length ws) where
   pub rules_size : length (between 1 (1 + P) ws) ≡ P
@@ -101,13 +81,9 @@ module _ (ws : List ℕ) (P N : ℕ) (size : 1 + P + N ≤ length ws) where
 
   head_of : take (1 + P) ws ≡ get_or ws 0 0 ∷ between 1 (1 + P) ws
   unfolding between
-  head_of =
-      first_of (take (1 + P) ws) (omega (arith, length-take (1 + P) ws))
-      ∙ ap (λ (x : ℕ). x ∷ drop 1 (take (1 + P) ws)) (get_or-take (1 + P) ws 0 0 (omega arith))
+  head_of = drop-cons (take (1 + P) ws) 0 0 (omega (arith, length-take (1 + P) ws)) ∙ rw (get_or-take (1 + P) ws 0 0 (omega arith))
 
   -- the words before the check words
   pub content_of : take (1 + P + N) ws ≡ get_or ws 0 0 ∷ between 1 (1 + P) ws ++ between (1 + P) (1 + P + N) ws
   unfolding between
-  content_of =
-      sym (take-append-drop (1 + P) (take (1 + P + N) ws))
-      ∙ ap (λ (x : List ℕ). x ++ drop (1 + P) (take (1 + P + N) ws)) (take-take (1 + P) (1 + P + N) ws (omega arith) ∙ head_of)
+  content_of = sym (take-append-drop (1 + P) (take (1 + P + N) ws)) ∙ rw (take-take (1 + P) (1 + P + N) ws (omega arith), head_of)

@@ -1,8 +1,7 @@
 -- A line is judged by running its words: they are read back from the small buffer as they were put there, and they say what the
 -- line says.
-use Rattle.std.proofs.Common.{ℕ, ◌+◌, ◌*◌, ◌/◌, ◌≤◌, ◌<◌, Bool, true, false, cond, ◌&&◌, ◌||◌, List, [], ◌∷◌, append-nil, ◌≡◌, refl, sym, ap, ap₂, ◌∙◌, arith, ltb-true, eqb-true, length, take, drop, take_at}
-use Rattle.std.proofs.lemmas.Bool.{eqb-false}
-use Rattle.std.proofs.Math.Dec.{eqb}
+use Rattle.std.proofs.Common.{ℕ, ◌+◌, ◌*◌, ◌<◌, Bool, true, cond, ◌&&◌, List, [], ◌∷◌, append-nil, ◌≡◌, refl, sym, ap, ◌∙◌, arith, ltb-true, length, replicate, drop, take_at}
+use Rattle.std.proofs.lemmas.List.{length-replicate}
 use Rattle.policy.proofs.ListLaws.{and_in}
 use Rattle.policy.proofs.SetLaws.{has_empty, has_insert_same, has_insert_other}
 use Rattle.policy.proofs.ValidLaws.{valid_out}
@@ -12,11 +11,10 @@ use Rattle.policy.specs.Effect.{effect_number, no_effects, with_effect}
 use Rattle.policy.specs.declared.effect.Effect.{Effect}
 use Rattle.policy.specs.declared.effect.Effects.{Effects}
 use Rattle.policy.specs.Limits.{valid, effect_in_range, ending_in_range}
-use Rattle.policy.specs.Line.{PolicyLine, rule, constraint, ending_of, ending_part}
-use Rattle.policy.specs.List.{all}
+use Rattle.policy.specs.Line.{PolicyLine, rule, constraint, ending_of}
+use Rattle.std.specs.List.{list_all}
 use Rattle.policy.specs.Policy.{Policy, Rule, Constraint}
-use Rattle.policy.specs.Set.{ActionSet, has, insert, all_events, has_action, insert_action, actions_below}
-use Rattle.policy.specs.declared.line.Ending.{Ending}
+use Rattle.policy.specs.Set.{ActionSet, all_events, has_action, insert_action, actions_below}
 use Rattle.policy.specs.declared.number.Action.{Action}
 use Rattle.policy.specs.declared.set.Events.{Events}
 use Rattle.pdl.specs.Yield.{rule_holds, take_effect, effects_where, effects, constraint_holds, conflict}
@@ -24,7 +22,6 @@ use Rattle.word.proofs.WordLaws.{words_append}
 use Rattle.word.proofs.WriteLaws.{put_in}
 use Rattle.word.specs.Steps.Write.{put_bytes, put_words}
 use Rattle.word.specs.Word.{word_limit, Below, bytes_of, words_of, between}
-use Rattle.operation.specs.Whole.{whole_lines}
 use Rattle.layout.specs.Layout.{line_words, lines_words, rule_part_words, constraint_part_words}
 use Rattle.exactness.proofs.ImageLaws.{lines_below}
 use Rattle.run.specs.Run.{run_rules, run_constraints}
@@ -36,37 +33,17 @@ use Rattle.explanation.specs.declared.find.Sought.{Sought}
 -- ---- the small buffer
 
 -- the words are those that were put in
-pub words_back : (l : PolicyLine) (buffer after : List ℕ) (count : ℕ) → Writable l → length buffer ≡ 68 → count ≡ length (line_words l) → after ≡ put_words buffer 0 (line_words l) → between 0 count (words_of after) ≡ line_words l
+pub words_back : (l : PolicyLine) → Writable l → between 0 (length (line_words l)) (words_of (put_words (replicate 68 0) 0 (line_words l))) ≡ line_words l
 unfolding between put_bytes
-words_back l buffer after count w long c e =
+words_back l w =
     let ws : List ℕ = line_words l in
-    let rest : List ℕ = drop (0 * 4 + length (bytes_of ws)) buffer in
-    let room : 0 + length ws ≤ length buffer / 4 = omega (arith, w.few) in
-    ap₂ (λ (n : ℕ) (b : List ℕ). take n (words_of b)) c (e ∙ put_in buffer 0 ws room)
-    ∙ ap (take (length ws)) (words_append ws rest w.small) ∙ take_at ws (words_of rest) (length ws) refl
-
--- what was read back can be run as a line that ends so
-pub back_whole : (l : PolicyLine) (ws : List ℕ) (e : Ending) → Writable l → ws ≡ line_words l → ending_of l ≡ e → whole_lines (ending_part e) ws ≡ true
-back_whole l ws e w back q = ap₂ (λ (x : Ending) (y : List ℕ). whole_lines (ending_part x) y) (sym q) back ∙ w.whole
-
--- ---- each way through the function that judges a line
-
-module _ (q : Sought) (e : Epoch) (ending : Ending) (ws : List ℕ) where
-  pub told_rule : (a : Action) (x : Effect) → q ≡ Sought.Proposing a → ending ≡ Ending.Yields x → (words : List ℕ) (events : Events) (effects : Effects) (answer : Bool) → words ≡ ws
-      → events ≡ all_events e.events → effects ≡ run_rules events e.readings words → answer ≡ has_action effects.actions a → answer ≡ tells q e ending ws
-  unfolding tells
-  told_rule a x p d words events effects answer w v r h =
-      rw (p, d) (h ∙ ap (λ (s : Effects). has_action s.actions a) (r ∙ ap₂ (λ (x : Events) (y : List ℕ). run_rules x e.readings y) v w))
-
-  pub told_constraint : (s : ActionSet) → q ≡ Sought.Violated s → ending ≡ Ending.Never → (words : List ℕ) (answer : Bool) → words ≡ ws
-      → answer ≡ run_constraints e.readings s words → answer ≡ tells q e ending ws
-  unfolding tells
-  told_constraint s p d words answer w r = rw (p, d) (r ∙ ap (run_constraints e.readings s) w)
+    let rest : List ℕ = drop (0 * 4 + length (bytes_of ws)) (replicate 68 0) in
+    rw (put_in (replicate 68 0) 0 ws (omega (arith, w.few, length-replicate {A = ℕ} 68 0)), words_append ws rest w.small) (take_at ws (words_of rest) (length ws) refl)
 
 -- ---- one line alone
 
 module _ (l : PolicyLine) (v : valid l ≡ true) where
-  alone : all valid (l ∷ []) ≡ true
+  alone : list_all valid (l ∷ []) ≡ true
   alone = and_in v refl
 
   alone_words : lines_words (l ∷ []) ≡ line_words l
@@ -86,24 +63,14 @@ constraint_alone : (c : Constraint) → valid (constraint c) ≡ true → (rs : 
 unfolding constraint_part_words conflict
 constraint_alone c v rs s =
     let p : Policy = record { rules = []; constraints = c ∷ [] } in
-    ap (run_constraints rs s) (sym (alone_words (constraint c) v)) ∙ constraints_run p (alone (constraint c) v) rs s ∙ or_none (constraint_holds rs s c)
-  where
-    or_none : (b : Bool) → b || false ≡ b
-    or_none true = refl
-    or_none false = refl
+    rw (← alone_words (constraint c) v, constraints_run p (alone (constraint c) v) rs s) (grind arith)
 
 -- ---- what is sought
 
 -- an effect alone proposes its action
-named : (a : Action) (n : ℕ) → n < 64 → (b : Bool) → eqb n a.0 ≡ b → has (insert 0 n) a.0 ≡ b
-named a n l true h = ap (has (insert 0 n)) (sym (eqb-true n a.0 h)) ∙ has_insert_same 0 n l
-named a n l false h = has_insert_other 0 n a.0 (λ (k : a.0 ≡ n). eqb-false n a.0 h (sym k)) ∙ has_empty a.0
-
 proposes : (a : Action) (b : Bool) (x : Effect) → effect_number x < 64 → has_action (cond b (with_effect no_effects x) no_effects).actions a ≡ b && causes a x
 unfolding causes with_effect effect_number
-proposes a true (Effect.Causes c) l = named a c.0 l (eqb c.0 a.0) refl
-proposes a true (Effect.Triggers d) l = has_empty a.0
-proposes a false x l = has_empty a.0
+proposes a b x l = grind (arith, has_empty, has_insert_same, has_insert_other)
 
 -- the rules that propose an action
 pub rules_sought : (e : Epoch) (a : Action) (l : PolicyLine) → valid l ≡ true → sought_by (Sought.Proposing a) e l ≡ is_proposing_rule e a l

@@ -25,6 +25,7 @@ pub enum Sought {
 const LINE_SIZE: usize = 68;
 
 /// Whether a line is sought in an epoch.
+#[tactic(auto, using(crate::proofs::TellLaws::words_back), unfolding(crate::specs::Steps::Sought::sought_by, crate::specs::Steps::Sought::tells))]
 fn told(line: &Line, sought: Sought, epoch: &Epoch) -> bool
     requires { Writable line.now }
     ensures { result ≡ sought_by sought epoch.now line.now }
@@ -46,6 +47,7 @@ fn told(line: &Line, sought: Sought, epoch: &Epoch) -> bool
 }
 
 /// How many bytes the first line of a text has, without the spaces at its end.
+#[tactic(auto, using(crate::proofs::TrimLaws::one_more, crate::proofs::TrimLaws::line_over, crate::proofs::TrimLaws::text_over, crate::proofs::TrimLaws::length_whole))]
 fn trimmed_length(text: &[u8]) -> usize
     ensures { result ≡ length (trim_end (first_line text.now)) }
 {
@@ -66,6 +68,7 @@ fn trimmed_length(text: &[u8]) -> usize
 }
 
 /// What is shown of the first line of a text, which starts at a position.
+#[tactic(auto, using(crate::proofs::FindLaws::behind_shorter, crate::proofs::FindLaws::shown_is, crate::proofs::TrimLaws::trimmed_length))]
 fn excerpt_at<'t>(at: usize, text: &'t [u8]) -> Excerpt<'t>
     requires { at + length text.now < 2 ^ 63 }
     ensures { stretch_of result ≡ shown_at at (first_line text.now) }

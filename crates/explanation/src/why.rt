@@ -24,6 +24,7 @@ pub enum Outcome<'m, 's> {
 }
 
 /// The first line of both texts that is sought, the maker's lines before the site's.
+#[tactic(auto, unfolding(crate::specs::Part::first_shown))]
 fn first_shown<'m, 's>(
     maker: &'m [u8],
     site: &'s [u8],
@@ -42,6 +43,7 @@ fn first_shown<'m, 's>(
 }
 
 /// What became of an action that a decision accepted, cancelled, or neither.
+#[tactic(auto, using(crate::proofs::WhyLaws::proposing_shown, crate::proofs::WhyLaws::cancelling_shown), unfolding(crate::specs::Why::explanation_for))]
 fn outcome_for<'m, 's>(
     maker: &'m [u8],
     site: &'s [u8],
@@ -70,6 +72,7 @@ fn outcome_for<'m, 's>(
 
 /// The explanation of an action by the texts, from what is decided on an image. Where the image is that of the texts, it is that of
 /// `explain`, which compiles them each time.
+#[tactic(auto, unfolding(crate::specs::Steps::On::explained_on, crate::specs::Steps::On::on_decision, crate::specs::Why::on_action))]
 pub fn explain_on<'m, 's>(
     image: &[u8],
     maker: &'m [u8],

@@ -1,6 +1,5 @@
 -- Whether a decision was refused, by its number.
-use Rattle.std.proofs.Common.{ℕ, false, ◌≡◌, refl, sym, ap, ◌∙◌, arith, Result, Ok, Err}
-use Rattle.std.proofs.Math.Dec.{eqb}
+use Rattle.std.proofs.Common.{ℕ, false, ◌≡◌, refl, sym, ap, ◌∙◌, arith, Result, Ok, Err, eqb}
 use Rattle.policy.proofs.FaultLaws.{fault_number_positive}
 use Rattle.policy.proofs.ListLaws.{true_false}
 use Rattle.policy.specs.Set.{set_of}

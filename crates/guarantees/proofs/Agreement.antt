@@ -1,10 +1,8 @@
 -- On the image of a text, or of two as one, the decisions are those of the reference machine on the text, and an image with
 -- one word changed is refused.
-use Rattle.std.specs.Prelude.{Option, Some, option_map}
 use Rattle.policy.specs.declared.fault.Refusal.{Refusal}
-use Rattle.std.proofs.Common.{ℕ, ◌+◌, ◌%◌, ◌^◌, ◌<◌, ◌≤◌, subst, Bool, true, false, cond, List, [], ◌∷◌, ◌↔◌, ◌≡◌, refl, sym, ap, ap₂, ◌∙◌, arith, length, take, Result, Ok, Err}
+use Rattle.std.proofs.Common.{ℕ, ◌+◌, ◌^◌, ◌<◌, ◌≤◌, true, false, List, [], ◌∷◌, ◌↔◌, ◌≡◌, refl, sym, ap, ◌∙◌, arith, length, Ok, Err, Option, Some, set, swap}
 use Rattle.std.proofs.Math.Path.{subst⁻¹}
-use Rattle.std.proofs.Math.ListN.{set}
 use Rattle.policy.specs.declared.epoch.Epoch.{Epoch}
 use Rattle.policy.specs.Fault.{fault_number, refusal}
 use Rattle.policy.specs.Limits.{Acceptable}
@@ -20,14 +18,11 @@ use Rattle.exactness.proofs.Exact.{changed_words, changed_length}
 use Rattle.exactness.proofs.Swaps.{exchanged_length, exchanged_words}
 use Rattle.exactness.specs.Exact.{changed, exchanged, exchange_fault, exchange_fault}
 use Rattle.image.specs.Check.{rule_words, constraint_words}
-use Rattle.std.specs.List.{swap}
 use Rattle.word.proofs.WordLaws.{bytes_length, bytes_below}
-use Rattle.word.specs.Word.{word_limit, bytes_of, words_of, word_at}
-use Rattle.layout.specs.Layout.{known_form, image_words, image_of}
+use Rattle.word.specs.Word.{word_limit, words_of, word_at}
+use Rattle.layout.specs.Layout.{known_form, image_of}
 use Rattle.codegen.proofs.Compilation.{image_written, texts_written}
 use Rattle.codegen.proofs.CompileLaws.{compiled_alone}
-use Rattle.policy.specs.Fill.{Filled}
-use Rattle.pdl.specs.Answer.{Answer}
 use Rattle.pdl.specs.Pdl.{Reducible}
 use Rattle.pdl.specs.Reduction.{proposed_with, kept_events, kept_triggers}
 use Rattle.guarantees.proofs.Decisions.{written_refused, written_yields, written_triggers, written_obeys, written_best, written_changed, written_exchanged}
@@ -57,120 +52,84 @@ image_of_texts form maker site image c =
 
 -- the call on a text is the call on it and an empty site's text
 pub alone_writes : (form : ℕ) (text image : List ℕ) → CompilesTo form text image ↔ TextsCompileTo form text [] image
-alone_writes form text image = (there, back)
-  where
-    there : CompilesTo form text image → TextsCompileTo form text [] image
-    there c =
-        let e = compiled_alone form text c.buffer in
-        record { buffer = c.buffer; size = c.size; accepted = ap (λ (o : Filled). o.answer) e ∙ c.accepted; written = ap (λ (o : Filled). take c.size o.buffer) e ∙ c.written }
-
-    back : TextsCompileTo form text [] image → CompilesTo form text image
-    back c =
-        let e = sym (compiled_alone form text c.buffer) in
-        record { buffer = c.buffer; size = c.size; accepted = ap (λ (o : Filled). o.answer) e ∙ c.accepted; written = ap (λ (o : Filled). take c.size o.buffer) e ∙ c.written }
+alone_writes form text image = grind (arith, compiled_alone)
 
 module _ (form : ℕ) (form_known : known_form form ≡ true) (p : Policy) (ok : Acceptable form p) where
   pub same_answer : (mode : Mode) (pending : EventSet) (line : List ℕ) → answer_of (decision_in mode (image_of form p) pending line) ≡ step mode p pending line
   unfolding step answer yield_in
-  same_answer mode pending line = go mode (next_epoch p pending line) refl
-    where
-      go : (m : Mode) (a : Result Epoch Refusal) → next_epoch p pending line ≡ a → answer_of (decision_in m (image_of form p) pending line) ≡ answer m p a
-      go m (Err r) q = ap answer_of (written_refused form form_known p ok m pending line r q)
-      go Mode.Actions (Ok e) q = written_yields form form_known p ok pending line e q
-      go Mode.Events (Ok e) q = written_reduces form form_known p ok pending line e q
+  same_answer mode pending line =
+      grind (arith, written_refused form form_known p ok mode pending line, written_yields form form_known p ok pending line, written_reduces form form_known p ok pending line)
 
   -- and the events that are pending behind it are the machine's set
   pub same_pending : (mode : Mode) (pending : EventSet) (line : List ℕ) → pending_after pending (decision_in mode (image_of form p) pending line) ≡ next_set mode p pending line
   unfolding next_set set_after yield_in triggered_in pending_after
-  same_pending mode pending line = go mode (next_epoch p pending line) refl
-    where
-      go : (m : Mode) (a : Result Epoch Refusal) → next_epoch p pending line ≡ a → pending_after pending (decision_in m (image_of form p) pending line) ≡ set_after pending m p a
-      go m (Err r) q = ap (pending_after pending) (written_refused form form_known p ok m pending line r q)
-      go Mode.Actions (Ok e) q = written_triggers form form_known p ok pending line e q
-      go Mode.Events (Ok e) q = written_events_trigger form form_known p ok pending line e q
+  same_pending mode pending line = grind (arith, written_refused, written_triggers, written_events_trigger)
 
   same_answers : (lines : List ToldLine) (pending : EventSet) → answers_from (image_of form p) pending lines ≡ steps p pending lines
   unfolding answers_from steps advanced
   same_answers [] pending = refl
-  same_answers (x ∷ xs) pending =
-      ap₂ (λ (a : Answer) (rest : List Answer). a ∷ rest) (same_answer x.mode pending x.line)
-      (ap (λ (s : EventSet). answers_from (image_of form p) s xs) (same_pending x.mode pending x.line) ∙ same_answers xs (next_set x.mode p pending x.line))
+  same_answers (x ∷ xs) pending = grind (arith, same_answer x.mode pending x.line, same_pending x.mode pending x.line, same_answers xs)
 
   same_sets : (lines : List ToldLine) (pending : EventSet) → pending_from (image_of form p) pending lines ≡ set_behind p pending lines
   unfolding pending_from set_behind advanced
   same_sets [] pending = refl
-  same_sets (x ∷ xs) pending = ap (λ (s : EventSet). pending_from (image_of form p) s xs) (same_pending x.mode pending x.line) ∙ same_sets xs (next_set x.mode p pending x.line)
+  same_sets (x ∷ xs) pending = grind (arith, same_pending x.mode pending x.line, same_sets xs)
 
 module _ (form : ℕ) (known : Option Policy) (image : List ℕ) (t : ImageOf form known image) where
   agrees : (lines : List ToldLine) → Some (answers image lines) ≡ machine_of known lines
   unfolding machine_of
-  agrees lines =
-      ap Some (ap (λ (i : List ℕ). answers i lines) t.same ∙ same_answers form t.form_known t.policy t.acceptable lines no_events)
-      ∙ sym (ap (option_map (λ (p : Policy). steps p no_events lines)) t.read)
+  agrees lines = rw (t.same, t.read, same_answers form t.form_known t.policy t.acceptable lines no_events)
 
   keeps : (lines : List ToldLine) → Some (pending_behind image lines) ≡ set_of_machine known lines
   unfolding set_of_machine
-  keeps lines =
-      ap Some (ap (λ (i : List ℕ). pending_behind i lines) t.same ∙ same_sets form t.form_known t.policy t.acceptable lines no_events)
-      ∙ sym (ap (option_map (λ (p : Policy). set_behind p no_events lines)) t.read)
+  keeps lines = rw (t.same, t.read, same_sets form t.form_known t.policy t.acceptable lines no_events)
 
-  refuses_change : (i v : ℕ) → i < length (words_of image) → v < word_limit → ¬ (v ≡ word_at image i) → (mode : Mode) (pending : EventSet) (line : List ℕ) → CheckFailed (answer_of (decision_in mode (changed image i v) pending line))
-  refuses_change =
-      subst⁻¹ (λ (x : List ℕ). (i v : ℕ) → i < length (words_of x) → v < word_limit → ¬ (v ≡ word_at x i) → (mode : Mode) (pending : EventSet) (line : List ℕ) → CheckFailed (answer_of (decision_in mode (changed x i v) pending line)))
-      t.same (written_changed form t.form_known t.policy t.acceptable)
+  -- with any other value in the place of any one word, the decision on every line is refused under one of 7 to 10, at the location 0
+  -- and with empty sets
+  pub refuses_change : (i v : ℕ) → i < length (words_of image) → v < word_limit → ¬ (v ≡ word_at image i) → (mode : Mode) (pending : EventSet) (line : List ℕ) → CheckFailed (answer_of (decision_in mode (changed image i v) pending line))
+  refuses_change = rw t.same (written_changed form t.form_known t.policy t.acceptable)
 
-  changes_one : (i v : ℕ) → v < word_limit → (length (changed image i v) ≡ length image) × (words_of (changed image i v) ≡ set (words_of image) i v)
+  -- the changed bytes are as many, and their words are those of the image but for that one
+  pub changes_one : (i v : ℕ) → v < word_limit → (length (changed image i v) ≡ length image) × (words_of (changed image i v) ≡ set (words_of image) i v)
   unfolding image_of
-  changes_one i v h =
-      let words : List ℕ = image_words form t.policy in
-      let whole : length (bytes_of words) % 4 ≡ 0 = omega (arith, bytes_length words) in
-      rw t.same (changed_length (bytes_of words) i v whole, changed_words (bytes_of words) (bytes_below words) i v h)
+  changes_one i v h = grind (arith, bytes_length, changed_length, changed_words, bytes_below)
 
-  refuses_swap : (form ≡ 1 → ⊥) → (i : ℕ) → i + 1 ≤ rule_words (words_of image) + constraint_words (words_of image) → (word_at image i ≡ word_at image (i + 1) → ⊥)
+  -- two neighbours in each other's place
+  pub refuses_swap : (form ≡ 1 → ⊥) → (i : ℕ) → i + 1 ≤ rule_words (words_of image) + constraint_words (words_of image) → (word_at image i ≡ word_at image (i + 1) → ⊥)
       → (mode : Mode) (pending : EventSet) (line : List ℕ) → RefusedUnder (fault_number (exchange_fault i)) (answer_of (decision_in mode (exchanged image i) pending line))
-  refuses_swap newer =
-      subst⁻¹ (λ (x : List ℕ). (i : ℕ) → i + 1 ≤ rule_words (words_of x) + constraint_words (words_of x) → (word_at x i ≡ word_at x (i + 1) → ⊥)
-      → (mode : Mode) (pending : EventSet) (line : List ℕ) → RefusedUnder (fault_number (exchange_fault i)) (answer_of (decision_in mode (exchanged x i) pending line)))
-      t.same (written_exchanged form t.form_known t.policy t.acceptable newer)
+  refuses_swap newer = rw t.same (written_exchanged form t.form_known t.policy t.acceptable newer)
 
-  exchanges_two : (i : ℕ) → i + 1 < length (words_of image) → (length (exchanged image i) ≡ length image) × (words_of (exchanged image i) ≡ swap (words_of image) i (i + 1))
+  pub exchanges_two : (i : ℕ) → i + 1 < length (words_of image) → (length (exchanged image i) ≡ length image) × (words_of (exchanged image i) ≡ swap (words_of image) i (i + 1))
   unfolding image_of
-  exchanges_two i h =
-      let words : List ℕ = image_words form t.policy in
-      let whole : length (bytes_of words) % 4 ≡ 0 = omega (arith, bytes_length words) in
-      rw t.same (exchanged_length (bytes_of words) i whole, exchanged_words (bytes_of words) (bytes_below words) i (subst (λ (x : List ℕ). i + 1 < length (words_of x)) t.same h))
+  exchanges_two i h = grind (arith, bytes_length, exchanged_length, exchanged_words, bytes_below)
 
   module _ (p : Policy) (q : known ≡ Some p) (pending : EventSet) (line : List ℕ) (e : Epoch) (next : next_epoch p pending line ≡ Ok e) where
     same_policy : p ≡ t.policy
-    same_policy = let k : Some p ≡ Some t.policy = sym q ∙ t.read in cc
+    same_policy = cc (q, t.read)
 
     next_here : next_epoch t.policy pending line ≡ Ok e
-    next_here = ap (λ (x : Policy). next_epoch x pending line) (sym same_policy) ∙ next
+    next_here = rw (← same_policy) next
 
-    obeys : Obeys p e (answer_of (decision image pending line))
+    -- a decision that is not refused is a maximal action cancellation of what the texts' rules propose
+    pub obeys : Obeys p e (answer_of (decision image pending line))
     obeys = rw (t.same, same_policy) (written_obeys form t.form_known t.policy t.acceptable pending line e next_here)
 
-    accepts_best : IsBest p e (answer_of (decision image pending line)).accepted
+    -- and it accepts the best of all sets of proposed actions on which no constraint holds
+    pub accepts_best : IsBest p e (answer_of (decision image pending line)).accepted
     accepts_best = rw (t.same, same_policy) (written_best form t.form_known t.policy t.acceptable pending line e next_here)
 
-    conflict_refused : (decision_in Mode.Events image pending line ≡ Err (refusal Fault.Unavoidable 0)) ↔ ¬ Reducible p.constraints (proposed_with p.rules) e
+    -- in the second mode a decision is refused under 17 exactly if no reduction of the epoch is free of conflict
+    pub conflict_refused : (decision_in Mode.Events image pending line ≡ Err (refusal Fault.Unavoidable 0)) ↔ ¬ Reducible p.constraints (proposed_with p.rules) e
     conflict_refused = rw (t.same, same_policy) (written_conflict form t.form_known t.policy t.acceptable pending line e next_here)
 
-    obeys_events : pending.bits < 2 ^ set_limit → Reducible p.constraints (proposed_with p.rules) e → ObeysEvents p e (kept_events p e) (answer_of (decision_in Mode.Events image pending line))
+    -- otherwise the kept events are a maximal such reduction, and what they propose is issued
+    pub obeys_events : pending.bits < 2 ^ set_limit → Reducible p.constraints (proposed_with p.rules) e → ObeysEvents p e (kept_events p e) (answer_of (decision_in Mode.Events image pending line))
     obeys_events = rw (t.same, same_policy) (written_obeys_events form t.form_known t.policy t.acceptable pending line e next_here)
 
     -- behind an accepted epoch those events are pending that its rules trigger
     triggers_pending : (mode : Mode) → (answer_of (decision_in mode image pending line)).is_refused ≡ false → (advanced mode image pending line).pending ≡ triggered_in mode p e
     unfolding advanced next_set set_after step answer
-    triggers_pending mode h =
-        let image_is : (i : List ℕ) → i ≡ image_of form t.policy → (answer_of (decision_in mode i pending line)).is_refused ≡ false → pending_after pending (decision_in mode i pending line) ≡ triggered_in mode t.policy e =
-        λ i same k.
-        let accepted : (yield_in mode t.policy e).is_refused ≡ false =
-        ap (λ (a : Result Epoch Refusal). (answer mode t.policy a).is_refused) (sym next_here) ∙ ap (λ (a : Answer). a.is_refused) (sym (same_answer form t.form_known t.policy t.acceptable mode pending line))
-        ∙ ap (λ (x : List ℕ). (answer_of (decision_in mode x pending line)).is_refused) (sym same) ∙ k in
-        ap (λ (x : List ℕ). pending_after pending (decision_in mode x pending line)) same ∙ same_pending form t.form_known t.policy t.acceptable mode pending line
-        ∙ ap (set_after pending mode t.policy) next_here ∙ ap (λ (b : Bool). cond b pending (triggered_in mode t.policy e)) accepted in
-        image_is image t.same h ∙ ap (λ (x : Policy). triggered_in mode x e) (sym same_policy)
+    triggers_pending mode h = grind (arith, same_answer, same_pending, next_here, same_policy)
 
 -- ---- the first half
 
@@ -190,60 +149,10 @@ pending_agrees form text image c = keeps form (policy_of form text) image (image
 pub texts_pending_agrees : (form : ℕ) (maker site image : List ℕ) → TextsCompileTo form maker site image → (lines : List ToldLine) → Some (pending_behind image lines) ≡ machine_set_of_texts form maker site lines
 texts_pending_agrees form maker site image c = keeps form (policy_of_texts form maker site) image (image_of_texts form maker site image c)
 
--- ---- the second half
-
--- with any other value in the place of any one word, the decision on every line is refused under one of 7 to 10, at the
--- location 0 and with empty sets
-pub change_refused : (form : ℕ) (text image : List ℕ) → CompilesTo form text image → (i v : ℕ) → i < length (words_of image) → v < word_limit → ¬ (v ≡ word_at image i)
-    → (mode : Mode) (pending : EventSet) (line : List ℕ) → CheckFailed (answer_of (decision_in mode (changed image i v) pending line))
-change_refused form text image c = refuses_change form (policy_of form text) image (image_of_text form text image c)
-
-pub texts_change_refused : (form : ℕ) (maker site image : List ℕ) → TextsCompileTo form maker site image → (i v : ℕ) → i < length (words_of image) → v < word_limit → ¬ (v ≡ word_at image i)
-    → (mode : Mode) (pending : EventSet) (line : List ℕ) → CheckFailed (answer_of (decision_in mode (changed image i v) pending line))
-texts_change_refused form maker site image c = refuses_change form (policy_of_texts form maker site) image (image_of_texts form maker site image c)
-
--- the changed bytes are as many, and their words are those of the image but for that one
-pub change_only : (form : ℕ) (text image : List ℕ) → CompilesTo form text image → (i v : ℕ) → v < word_limit → (length (changed image i v) ≡ length image) × (words_of (changed image i v) ≡ set (words_of image) i v)
-change_only form text image c = changes_one form (policy_of form text) image (image_of_text form text image c)
-
-pub texts_change_only : (form : ℕ) (maker site image : List ℕ) → TextsCompileTo form maker site image → (i v : ℕ) → v < word_limit → (length (changed image i v) ≡ length image) × (words_of (changed image i v) ≡ set (words_of image) i v)
-texts_change_only form maker site image c = changes_one form (policy_of_texts form maker site) image (image_of_texts form maker site image c)
-
--- two neighbours in each other's place
-pub swap_refused : (form : ℕ) → ¬ (form ≡ 1) → (text image : List ℕ) → CompilesTo form text image → (i : ℕ) → i + 1 ≤ rule_words (words_of image) + constraint_words (words_of image)
-    → ¬ (word_at image i ≡ word_at image (i + 1)) → (mode : Mode) (pending : EventSet) (line : List ℕ) → RefusedUnder (fault_number (exchange_fault i)) (answer_of (decision_in mode (exchanged image i) pending line))
-swap_refused form newer text image c = refuses_swap form (policy_of form text) image (image_of_text form text image c) newer
-
-pub texts_swap_refused : (form : ℕ) → ¬ (form ≡ 1) → (maker site image : List ℕ) → TextsCompileTo form maker site image → (i : ℕ) → i + 1 ≤ rule_words (words_of image) + constraint_words (words_of image)
-    → ¬ (word_at image i ≡ word_at image (i + 1)) → (mode : Mode) (pending : EventSet) (line : List ℕ) → RefusedUnder (fault_number (exchange_fault i)) (answer_of (decision_in mode (exchanged image i) pending line))
-texts_swap_refused form newer maker site image c = refuses_swap form (policy_of_texts form maker site) image (image_of_texts form maker site image c) newer
-
-pub swap_only : (form : ℕ) (maker site image : List ℕ) → TextsCompileTo form maker site image → (i : ℕ) → i + 1 < length (words_of image)
-    → (length (exchanged image i) ≡ length image) × (words_of (exchanged image i) ≡ swap (words_of image) i (i + 1))
-swap_only form maker site image c = exchanges_two form (policy_of_texts form maker site) image (image_of_texts form maker site image c)
-
--- ---- what the policy asks of a decision, on the image of two texts
+-- ---- what is pending behind a decision on the image of two texts
 
 module _ (form : ℕ) (maker site image : List ℕ) (c : TextsCompileTo form maker site image) (p : Policy) (read : policy_of_texts form maker site ≡ Some p) where
-  -- a decision that is not refused is a maximal action cancellation of what the texts' rules propose
-  pub decision_obeys : (pending : EventSet) (line : List ℕ) (e : Epoch) → next_epoch p pending line ≡ Ok e → Obeys p e (answer_of (decision image pending line))
-  decision_obeys = obeys form (policy_of_texts form maker site) image (image_of_texts form maker site image c) p read
-
-  -- and it accepts the best of all sets of proposed actions on which no constraint holds
-  pub decision_best : (pending : EventSet) (line : List ℕ) (e : Epoch) → next_epoch p pending line ≡ Ok e → IsBest p e (answer_of (decision image pending line)).accepted
-  decision_best = accepts_best form (policy_of_texts form maker site) image (image_of_texts form maker site image c) p read
-
-  -- in the second mode a decision is refused under 17 exactly if no reduction of the epoch is free of conflict
-  pub events_conflict_refused : (pending : EventSet) (line : List ℕ) (e : Epoch) → next_epoch p pending line ≡ Ok e
-      → (decision_in Mode.Events image pending line ≡ Err (refusal Fault.Unavoidable 0)) ↔ ¬ Reducible p.constraints (proposed_with p.rules) e
-  events_conflict_refused = conflict_refused form (policy_of_texts form maker site) image (image_of_texts form maker site image c) p read
-
-  -- otherwise the kept events are a maximal such reduction, and what they propose is issued
-  pub events_decision_obeys : (pending : EventSet) (line : List ℕ) (e : Epoch) → next_epoch p pending line ≡ Ok e → pending.bits < 2 ^ set_limit → Reducible p.constraints (proposed_with p.rules) e
-      → ObeysEvents p e (kept_events p e) (answer_of (decision_in Mode.Events image pending line))
-  events_decision_obeys = obeys_events form (policy_of_texts form maker site) image (image_of_texts form maker site image c) p read
-
-  -- and behind an accepted epoch exactly the events are pending that its rules trigger, or by events those of the kept events
+  -- behind an accepted epoch exactly the events are pending that its rules trigger, or by events those of the kept events
   pub pending_triggered : (mode : Mode) (pending : EventSet) (line : List ℕ) (e : Epoch) → next_epoch p pending line ≡ Ok e → (answer_of (decision_in mode image pending line)).is_refused ≡ false
       → (x : Event) → x.0 < set_limit → (has_event (advanced mode image pending line).pending x ≡ true) ↔ IsTriggered mode p e x
   unfolding triggered_in kept_triggers

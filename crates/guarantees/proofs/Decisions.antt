@@ -1,15 +1,15 @@
 -- What holds of every decision: when it is refused and what it then carries, that it is what the image's policy yields in the first
 -- mode, and that an image in which one word was changed is refused. Of the second mode speaks Reductions.
-use Rattle.std.proofs.Common.{ℕ, zero, suc, ◌+◌, ◌<◌, ◌≤◌, Bool, true, false, cond, List, [], map, ◌⊎◌, inl, inr, ⊎_elim, ◌↔◌, ◌≡◌, refl, sym, ap, ◌∙◌, subst, arith, length, Result, Ok, Err}
+use Rattle.std.proofs.Common.{ℕ, zero, suc, ◌+◌, ◌<◌, ◌≤◌, Bool, true, false, List, [], map, ◌⊎◌, inl, inr, ⊎_elim, ◌↔◌, ◌≡◌, refl, sym, ap, ◌∙◌, arith, length, Ok, Err}
 use Rattle.std.proofs.lemmas.List.Folds.{list_all-map}
-use Rattle.policy.proofs.ListLaws.{all_out, true_false}
+use Rattle.policy.proofs.ListLaws.{all_out}
 use Rattle.policy.proofs.ValidLaws.{valid_out}
 use Rattle.policy.specs.declared.epoch.Epoch.{Epoch}
 use Rattle.policy.specs.Fault.{fault_number, refusal}
 use Rattle.policy.specs.declared.fault.Fault.{Fault}
 use Rattle.policy.specs.Limits.{valid, Acceptable}
 use Rattle.policy.specs.Line.{constraint, heads_of}
-use Rattle.policy.specs.List.{all}
+use Rattle.std.specs.List.{list_all}
 use Rattle.policy.specs.Policy.{Policy, Constraint}
 use Rattle.policy.specs.Set.{ActionSet, EventSet, no_actions, meets}
 use Rattle.policy.specs.declared.fault.Refusal.{Refusal}
@@ -18,7 +18,7 @@ use Rattle.policy.specs.declared.mode.Mode.{Mode}
 use Rattle.policy.specs.declared.number.Action.{Action}
 use Rattle.pdl.proofs.Monitor.{accepted_with_cancelled, cancelled_apart, cancelled_trial, giving_back_violates, maximal_cancellation, nothing_cancelled}
 use Rattle.pdl.proofs.BestLaws.{accepted_best, accepted_only_best}
-use Rattle.pdl.specs.Answer.{Answer, issues}
+use Rattle.pdl.specs.Answer.{issues}
 use Rattle.pdl.specs.Pdl.{NameActions}
 use Rattle.pdl.specs.Yield as Yield
 use Rattle.pdl.specs.Yield.{proposed, triggered, with_pending, names_reserved, cancelled}
@@ -32,15 +32,14 @@ use Rattle.image.specs.Load.{load, Contents}
 use Rattle.exactness.proofs.Exact.{refusals, took, image_taken, one_word_changed}
 use Rattle.exactness.proofs.Swaps.{written_swapped}
 use Rattle.image.specs.Check.{rule_words, constraint_words}
-use Rattle.exactness.specs.Exact.{contents_of, changed, exchanged, exchange_fault, Checked, RefusedEarly, RefusalOf, of_checks, of_weights, of_body}
+use Rattle.exactness.specs.Exact.{contents_of, changed, exchanged, exchange_fault, Checked, RefusalOf}
 use Rattle.meaning.proofs.Decided.{names_is, reserved_refuses, decided_is, image_bounded}
 use Rattle.meaning.proofs.Taken.{Implements, written_implements, taken_implements}
 use Rattle.monitor.proofs.DecideLaws.{image_refused, line_refused}
-use Rattle.monitor.specs.Decision.{visited_by, actions_of, clash_by, reduced_by, reduction_by, decided_by, reserved_in, on_image, decision_in, decision, pending_after, answer_of}
-use Rattle.monitor.specs.declared.decision.Actions.{Actions}
-use Rattle.guarantees.proofs.NextLaws.{Next, NoNext, no_epoch, is_reserved, next_out, next_refused, names_triggered, triggered_named}
+use Rattle.monitor.specs.Decision.{visited_by, actions_of, reduction_by, decided_by, reserved_in, on_image, decision_in, decision, pending_after, answer_of}
+use Rattle.guarantees.proofs.NextLaws.{Next, next_out, next_refused, names_triggered, triggered_named}
 use Rattle.guarantees.specs.Machine.{next_epoch}
-use Rattle.guarantees.specs.Decisions.{RefusedFor, the_image, the_line, the_reserved, OfDecision, of_image, of_line, of_reserved, NamesTriggered, CheckFailed, RefusedUnder, NotRefused, yield_of, Obeys, IsBest}
+use Rattle.guarantees.specs.Decisions.{RefusedFor, the_image, the_line, the_reserved, OfDecision, NamesTriggered, CheckFailed, RefusedUnder, NotRefused, yield_of, Obeys, IsBest}
 
 -- ---- refusals
 
@@ -65,39 +64,28 @@ module _ (mode : Mode) (image : List ℕ) (bounded : Bytes image) (pending : Eve
 
   pub refused_cases : decision_in mode image pending line ≡ Err r → RefusedFor image line r ⊎ OfEpochAlone
   unfolding decision_in on_image
-  refused_cases = image_case (load image) refl
+  refused_cases h = elim told [
+    | inl q ↦ inl (the_image q)
+    | inr (contents, t, inl q) ↦ inl (the_line contents t q)
+    | inr (contents, t, inr (inl (e, q, k, w))) ↦ inl (the_reserved contents t e q (names contents e t k) w)
+    | inr (contents, t, inr (inr (e, q, k, w))) ↦ inr (record { contents = contents; taken = t; named = e; read = q; free = names contents e t k; refused = w })
+  ]
     where
-      named_case : (contents : Contents) → load image ≡ Ok contents → (e : Epoch) → read_epoch line ≡ Ok e → (b : Bool) → meets (reserved_in contents) e.events ≡ b
-          → cond b (Err (refusal Fault.ReservedEvent 0)) (decided_by mode contents (with_pending pending e)) ≡ Err r → RefusedFor image line r ⊎ OfEpochAlone
-      named_case contents t e q true k h =
-          let w : r ≡ refusal Fault.ReservedEvent 0 = cc in
-          inl (the_reserved contents t e q (sym (names_is image contents (policy_in image) (implements contents t) e) ∙ k) w)
-      named_case contents t e q false k h =
-          inr (record { contents = contents; taken = t; named = e; read = q; free = sym (names_is image contents (policy_in image) (implements contents t) e) ∙ k; refused = h })
+      names : {b : Bool} (contents : Contents) (e : Epoch) → load image ≡ Ok contents → meets (reserved_in contents) e.events ≡ b → names_reserved (policy_in image).rules e ≡ b
+      names contents e t k = sym (names_is image contents (policy_in image) (implements contents t) e) ∙ k
 
-      line_case : (contents : Contents) → load image ≡ Ok contents → (a : Result Epoch Refusal) → read_epoch line ≡ a
-          → on_image mode pending (Ok contents) a ≡ Err r → RefusedFor image line r ⊎ OfEpochAlone
-      line_case contents t (Err s) q h = let w : s ≡ r = cc in inl (the_line contents t (q ∙ ap Err w))
-      line_case contents t (Ok e) q h = named_case contents t e q (meets (reserved_in contents) e.events) refl h
-
-      image_case : (l : Result Contents Refusal) → load image ≡ l → on_image mode pending l (read_epoch line) ≡ Err r → RefusedFor image line r ⊎ OfEpochAlone
-      image_case (Err s) q h = let w : s ≡ r = cc in inl (the_image (q ∙ ap Err w))
-      image_case (Ok contents) q h = line_case contents q (read_epoch line) refl h
+      told : (load image ≡ Err r) ⊎ ((c : Contents) × (load image ≡ Ok c) × ((read_epoch line ≡ Err r) ⊎ (((e : Epoch) × (read_epoch line ≡ Ok e) × (meets (reserved_in c) e.events ≡ true) × (r ≡ refusal Fault.ReservedEvent 0))
+          ⊎ ((e : Epoch) × (read_epoch line ≡ Ok e) × (meets (reserved_in c) e.events ≡ false) × (decided_by mode c (with_pending pending e) ≡ Err r)))))
+      told = grind arith
 
 -- under which faults, at which locations
 pub either_faults : (image line : List ℕ) (r : Refusal) → RefusedFor image line r → OfDecision (length (words_of image)) r
-either_faults image line r (the_image q) = of_image (refusals image r q)
-either_faults image line r (the_line contents t q) = of_line (epoch_faults line r q)
-either_faults image line r (the_reserved contents t e q n w) = of_reserved w
+either_faults image line r h = grind (arith, refusals, epoch_faults)
 
 -- whatever was handed over, the sets of a refusal are empty, in either mode
 pub refused_empty : (mode : Mode) (image : List ℕ) (pending : EventSet) (line : List ℕ) → (answer_of (decision_in mode image pending line)).is_refused ≡ true
     → ((answer_of (decision_in mode image pending line)).accepted ≡ no_actions) × ((answer_of (decision_in mode image pending line)).cancelled ≡ no_actions)
-refused_empty mode image pending line = go (decision_in mode image pending line)
-  where
-    go : (d : Result Actions Refusal) → (answer_of d).is_refused ≡ true → ((answer_of d).accepted ≡ no_actions) × ((answer_of d).cancelled ≡ no_actions)
-    go (Err r) h = (refl, refl)
-    go (Ok actions) h = let z : ◌≡◌ {A = ℕ} 0 1 = cc in absurd (omega arith)
+refused_empty mode image pending line h = grind arith
 
 -- ---- what the image's policy yields
 
@@ -109,7 +97,7 @@ unfolding heads_of
 has_action_is c v q =
     absurd (omega (arith, (valid_out (constraint c) v).some, ap (λ (actions : List Action). length (map Test.Member actions)) q))
 
-name_actions : (cs : List Constraint) → all valid (map constraint cs) ≡ true → NameActions cs
+name_actions : (cs : List Constraint) → list_all valid (map constraint cs) ≡ true → NameActions cs
 name_actions cs v c m = has_action_is c (all_out (λ (x : Constraint). valid (constraint x)) cs (sym (list_all-map valid constraint cs) ∙ v) c m)
 
 -- what a policy accepts is the best of all sets of proposed actions on which no constraint holds
@@ -120,11 +108,7 @@ accepted_is_best p e named =
 module _ (image : List ℕ) (contents : Contents) (p : Policy) (does : Implements image contents p) where
   -- on a line that is refused, in either mode
   pub does_refuse : (mode : Mode) (pending : EventSet) (line : List ℕ) (r : Refusal) → next_epoch p pending line ≡ Err r → decision_in mode image pending line ≡ Err r
-  does_refuse mode pending line r h = go (next_refused p pending line r h)
-    where
-      go : NoNext p line r → decision_in mode image pending line ≡ Err r
-      go (no_epoch q) = sym (line_refused mode image pending line contents does.taken r q)
-      go (is_reserved named q n w) = reserved_refuses image contents p does mode pending line named q n ∙ ap Err (sym w)
+  does_refuse mode pending line r h = grind (arith, next_refused, line_refused, reserved_refuses)
 
   module _ (pending : EventSet) (line : List ℕ) (e : Epoch) (next : next_epoch p pending line ≡ Ok e) where
     n : Next p pending line e
@@ -133,9 +117,7 @@ module _ (image : List ℕ) (contents : Contents) (p : Policy) (does : Implement
     -- the decision is what the policy yields
     pub decided_yields : decision image pending line
         ≡ Ok (actions_of (proposed p.rules e) (Yield.accepted p e) (triggered p.rules e) (visited_by contents.parts.rules contents.parts.constraints e))
-    decided_yields =
-        decided_is image contents p does pending line n.named n.read n.free
-        ∙ ap (λ (x : Epoch). Ok (actions_of (proposed p.rules x) (Yield.accepted p x) (triggered p.rules x) (visited_by contents.parts.rules contents.parts.constraints x))) n.whole
+    decided_yields = grind (arith, decided_is, n)
 
     pub holds_policy : answer_of (decision image pending line) ≡ yield_of p e
     unfolding cancelled
@@ -143,7 +125,7 @@ module _ (image : List ℕ) (contents : Contents) (p : Policy) (does : Implement
 
     -- and so it is a maximal action cancellation of what it proposes
     pub obeys_policy : Obeys p e (answer_of (decision image pending line))
-    obeys_policy = subst (Obeys p e) (sym holds_policy) (record {
+    obeys_policy = rw holds_policy (record {
       issued = not_refused;
       maximal = maximal_cancellation p (name_actions p.constraints does.acceptable.constraints_valid) e;
       rest = accepted_with_cancelled p e;
@@ -154,9 +136,7 @@ module _ (image : List ℕ) (contents : Contents) (p : Policy) (does : Implement
     })
 
     pub best_policy : IsBest p e (answer_of (decision image pending line)).accepted
-    best_policy =
-        subst (λ (a : Answer). IsBest p e a.accepted) (sym holds_policy)
-        (accepted_is_best p e (name_actions p.constraints does.acceptable.constraints_valid))
+    best_policy = rw holds_policy (accepted_is_best p e (name_actions p.constraints does.acceptable.constraints_valid))
 
 -- of an image that is taken, by the policy that it holds
 pub held_best : (image : List ℕ) → Bytes image → (contents : Contents) → load image ≡ Ok contents → (pending : EventSet) (line : List ℕ) (e : Epoch)
@@ -169,19 +149,14 @@ held_best image bounded contents taken = best_policy image contents (policy_in i
 pub image_changed : (image : List ℕ) → Bytes image → Checked image
     → (i v : ℕ) → i < length (words_of image) → v < word_limit → ¬ (v ≡ word_at image i)
     → (mode : Mode) (pending : EventSet) (line : List ℕ) → CheckFailed (answer_of (decision_in mode (changed image i v) pending line))
-image_changed image bounded ok i v l small other mode pending line = go (one_word_changed image bounded ok i v l small other)
-  where
-    go : RefusedEarly (load (changed image i v)) → CheckFailed (answer_of (decision_in mode (changed image i v) pending line))
-    go r =
-        subst (λ (d : Result Actions Refusal). CheckFailed (answer_of d))
-        (image_refused mode (changed image i v) pending line (refusal r.fault 0) r.refused)
-        (record { is_refused = refl; from = r.from; upto = r.upto; text = refl; location = refl; accepts = refl; cancels = refl })
+image_changed image bounded ok i v l small other mode pending line =
+    let r = one_word_changed image bounded ok i v l small other in
+    rw (← image_refused mode (changed image i v) pending line (refusal r.fault 0) r.refused)
+    (record { is_refused = refl; from = r.from; upto = r.upto; text = refl; location = refl; accepts = refl; cancels = refl })
 
 -- an image that is refused under a fault at location 0 is refused so whatever the line and its mode
 pub refused_under : (image : List ℕ) (f : Fault) → load image ≡ Err (refusal f 0) → (mode : Mode) (pending : EventSet) (line : List ℕ) → RefusedUnder (fault_number f) (answer_of (decision_in mode image pending line))
-refused_under image f e mode pending line =
-    subst (λ (d : Result Actions Refusal). RefusedUnder (fault_number f) (answer_of d)) (image_refused mode image pending line (refusal f 0) e)
-    (record { is_refused = refl; under = refl; text = refl; location = refl; accepts = refl; cancels = refl })
+refused_under image f e mode pending line = grind (arith, image_refused)
 
 -- ---- the image of a policy that an accepted text may have
 
@@ -220,21 +195,14 @@ module _ (form : ℕ) (known : known_form form ≡ true) (p : Policy) (ok : Acce
 -- ---- fault 18
 
 not_of_image : (words : ℕ) → RefusalOf words (refusal Fault.ReservedEvent 0) → ⊥
-not_of_image words (of_checks s a b l) = omega (arith, b)
-not_of_image words (of_weights s f l) = omega (arith, f)
-not_of_image words (of_body s f a b) = omega (arith, f)
+not_of_image words x = grind arith
 
 not_of_epoch : OfEpoch (refusal Fault.ReservedEvent 0) → ⊥
-not_of_epoch o = true_false o.number refl
+not_of_epoch o = cc
 
 not_decided : (mode : Mode) (contents : Contents) (e : Epoch) → decided_by mode contents e ≡ Err (refusal Fault.ReservedEvent 0) → ⊥
 unfolding decided_by reduction_by
-not_decided Mode.Actions contents e h = let z : ⊥ = cc in z
-not_decided Mode.Events contents e h = go (clash_by contents.parts.rules contents.parts.constraints e 0) h
-  where
-    go : (b : Bool) → cond b (Err (refusal Fault.Unavoidable 0)) (Ok (reduced_by contents.parts.rules contents.parts.constraints e)) ≡ Err (refusal Fault.ReservedEvent 0) → ⊥
-    go true k = let w : refusal Fault.Unavoidable 0 ≡ refusal Fault.ReservedEvent 0 = cc in omega (arith, ap (λ (x : Refusal). fault_number x.fault) w)
-    go false k = let z : ⊥ = cc in z
+not_decided mode contents e h = grind arith
 
 pub reserved_refused : (mode : Mode) (image : List ℕ) (pending : EventSet) (line : List ℕ) → Bytes image → (decision_in mode image pending line ≡ Err (refusal Fault.ReservedEvent 0)) ↔ NamesTriggered image line
 reserved_refused mode image pending line bounded = (there, back)

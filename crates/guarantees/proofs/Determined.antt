@@ -1,7 +1,6 @@
 -- What a policy asks of an answer to an epoch is met by one answer alone, in either mode.
-use Rattle.std.proofs.Common.{ℕ, List, ◌<◌, ◌≡◌, ⊎_elim, Bool, true, false, ◌||◌, refl, sym, ap, ◌∙◌, arith, zero, suc, ltb-true, ltb-false}
-use Rattle.std.proofs.Math.Dec.{ltb}
-use Rattle.policy.proofs.ListLaws.{bool_ext, true_false, not_false_is}
+use Rattle.std.proofs.Common.{ℕ, List, ◌<◌, ◌≡◌, true, false, ◌||◌, sym, ap, ◌∙◌, arith, zero, suc}
+use Rattle.policy.proofs.ListLaws.{not_false_is}
 use Rattle.policy.proofs.SetLaws.{has_union, has_insert_cases, has_below, has_below_past, set_ext}
 use Rattle.policy.specs.declared.epoch.Epoch.{Epoch}
 use Rattle.policy.specs.declared.epoch.Readings.{Readings}
@@ -27,34 +26,16 @@ module _ (Bad : ℕ → Type 0) (more : (s t : ℕ) → Within s t → Bad s →
 
   -- a number that one set keeps is kept by another that keeps no others below it
   kept_too : (s t : ℕ) → Kept s → Kept t → (n : ℕ) → ((m : ℕ) → m < n → has t m ≡ true → has s m ≡ true) → has s n ≡ true → has t n ≡ true
-  kept_too s t ks kt n lower h = not_false_is (has t n) (λ q. ks.good (more (insert (below t n) n) s inside (kt.trial n (ks.within n h) q)))
-    where
-      under : (m : ℕ) (b : Bool) → ltb m n ≡ b → has (below t n) m ≡ true → has s m ≡ true
-      under m true l k = let u = ltb-true m n l in lower m u (sym (has_below t n m u) ∙ k)
-      under m false l k = absurd (true_false k (has_below_past t n m (ltb-false m n l)))
-
-      inside : Within (insert (below t n) n) s
-      inside m k = ⊎_elim (λ q. ap (has s) q ∙ h) (under m (ltb m n) refl) (has_insert_cases (below t n) n m k)
+  kept_too s t ks kt n lower h = grind (arith, not_false_is, has_insert_cases, has_below, has_below_past)
 
   same_under : (s t : ℕ) → Kept s → Kept t → (n m : ℕ) → m < n → has s m ≡ has t m
   same_under s t ks kt zero m h = absurd (omega (arith, h))
-  same_under s t ks kt (suc n) m h =
-      bool_ext _ _
-      (kept_too s t ks kt m (λ k l e. same_under s t ks kt n k (omega (arith, l, h)) ∙ e))
-      (kept_too t s kt ks m (λ k l e. sym (same_under s t ks kt n k (omega (arith, l, h))) ∙ e))
+  same_under s t ks kt (suc n) m h = grind (arith, kept_too s t ks kt m, kept_too t s kt ks m, same_under s t ks kt n)
 
   kept_same : (s t : ℕ) → Kept s → Kept t → s ≡ t
   kept_same s t ks kt = set_ext s t (λ n. same_under s t ks kt (suc n) n (omega arith))
 
 -- ---- the other proposed actions
-
-or_right : (a b : Bool) → a ≡ false → a || b ≡ true → b ≡ true
-or_right true b e h = absurd (true_false refl e)
-or_right false b e h = h
-
-or_later : (a b : Bool) → b ≡ true → a || b ≡ true
-or_later true b h = refl
-or_later false b h = h
 
 module _ (all s : ActionSet) where
   -- all but those of s
@@ -66,30 +47,20 @@ module _ (all s : ActionSet) where
   either t o x = sym (has_union s.bits t.bits x.0) ∙ ap (λ (u : ActionSet). has_action u x) o.rest
 
   pub other_in : (t : ActionSet) → Others t → (x : Action) → has_action all x ≡ true → has_action s x ≡ false → has_action t x ≡ true
-  other_in t o x h k = or_right (has_action s x) (has_action t x) k (either t o x ∙ h)
+  other_in t o x h k = grind (arith, either t o x)
 
   other_too : (t u : ActionSet) → Others t → Others u → (x : Action) → has_action t x ≡ true → has_action u x ≡ true
-  other_too t u ot ou x h = other_in u ou x (sym (either t ot x) ∙ or_later (has_action s x) (has_action t x) h) (ot.apart x h)
+  other_too t u ot ou x h = grind (arith, either t ot x, either u ou x, ot.apart x)
 
   others_same : (t u : ActionSet) → Others t → Others u → t ≡ u
-  others_same t u ot ou = actions_ext t u (λ x. bool_ext _ _ (other_too t u ot ou x) (other_too u t ou ot x))
+  others_same t u ot ou = actions_ext t u (λ x. grind (arith, other_too t u ot ou x, other_too u t ou ot x))
 
 same_answer : (a b : Answer) → NotRefused a → NotRefused b → a.accepted ≡ b.accepted → a.cancelled ≡ b.cancelled → a ≡ b
-same_answer a b x y s t = same
-  where
-    same : ◌≡◌ {A = Answer}
-        (record { is_refused = a.is_refused; number = a.number; text = a.text; location = a.location; accepted = a.accepted; cancelled = a.cancelled })
-        (record { is_refused = b.is_refused; number = b.number; text = b.text; location = b.location; accepted = b.accepted; cancelled = b.cancelled })
-    same = rw (x.is_refused, y.is_refused, x.number, y.number, x.text, y.text, x.location, y.location, s, t)
+same_answer a b x y s t = grind arith
 
 -- a constraint that holds on a set holds on a larger one
 more_violated : (cs : List Constraint) (rs : Readings) (s t : ActionSet) → s ⊆ t → Violated cs rs s → Violated cs rs t
-more_violated cs rs s t h v =
-    record {
-      constraint = v.constraint;
-      listed = v.listed;
-      holds = record { members = λ a m. h a (v.holds.members a m); condition = v.holds.condition };
-    }
+more_violated cs rs s t h v = grind arith
 
 module _ (p : Policy) (e : Epoch) where
   -- ---- the first mode
@@ -123,9 +94,7 @@ module _ (p : Policy) (e : Epoch) where
   Conflicts kept = Violated p.constraints e.readings (proposed_with p.rules e (set_of kept))
 
   more_conflicts : (s t : ℕ) → Within s t → Conflicts s → Conflicts t
-  more_conflicts s t h =
-      more_violated p.constraints e.readings (proposed_with p.rules e (set_of s)) (proposed_with p.rules e (set_of t))
-      (more_proposed p.rules (set_of s) (set_of t) e.events e.readings (λ x. h x.0))
+  more_conflicts s t h k = grind (arith, more_violated, more_proposed)
 
   event_others : (kept : EventSet) (a : Answer) → ObeysEvents p e kept a → Others (proposed p.rules e) a.accepted a.cancelled
   event_others kept a o = record { rest = o.rest; apart = o.apart }

@@ -1,15 +1,14 @@
 -- The loader takes exactly the images that some accepted text compiles to, and when it refuses under 11.
-use Rattle.std.specs.Prelude.{Some}
 use Rattle.policy.specs.Line.{PolicyLine}
-use Rattle.std.proofs.Common.{ℕ, true, List, [], ◌∷◌, ◌↔◌, ◌≡◌, refl, sym, ap, ◌∙◌, subst, arith, ltb-true, length, Result, Ok, Err}
+use Rattle.std.proofs.Common.{ℕ, true, List, [], ◌∷◌, ◌↔◌, ◌≡◌, refl, sym, ap, ◌∙◌, subst, arith, ltb-true, length, Result, Ok, Err, Some}
 use Rattle.policy.proofs.ListLaws.{and_out}
-use Rattle.policy.specs.Fault.{fault_number, refusal}
+use Rattle.policy.specs.Fault.{refusal}
 use Rattle.policy.specs.Limits.{Acceptable}
-use Rattle.policy.specs.List.{all}
+use Rattle.std.specs.List.{list_all}
 use Rattle.policy.specs.Policy.{Policy}
 use Rattle.policy.specs.declared.fault.Fault.{Fault}
 use Rattle.policy.specs.declared.fault.Refusal.{Refusal}
-use Rattle.exactness.proofs.Exact.{exactly_images, image_refused_exactly, image_taken, took, held_acceptable, held_image, held_form, refused_with, Answered, early, weighted, late, answered}
+use Rattle.exactness.proofs.Exact.{exactly_images, image_refused_exactly, image_taken, took, held_acceptable, held_image, held_form, Answered, early, weighted, late, answered}
 use Rattle.exactness.specs.Exact.{contents_of, Weighed}
 use Rattle.exactness.specs.ImageFault.{ImageFault}
 use Rattle.layout.specs.Layout.{known_form, image_of}
@@ -25,10 +24,10 @@ use Rattle.printer.specs.Printed.{text_of}
 use Rattle.guarantees.proofs.Agreement.{image_of_text}
 use Rattle.guarantees.specs.Claims.{CompilesTo, SomeText}
 
-ascii_bytes : (s : List ℕ) → all ascii s ≡ true → Bytes s
+ascii_bytes : (s : List ℕ) → list_all ascii s ≡ true → Bytes s
 ascii_bytes [] h i = omega arith
-ascii_bytes (b ∷ s) h ℕ.zero = let l = ltb-true b 128 (and_out (ascii b) (all ascii s) h).0 in omega arith
-ascii_bytes (b ∷ s) h (ℕ.suc i) = ascii_bytes s (and_out (ascii b) (all ascii s) h).1 i
+ascii_bytes (b ∷ s) h ℕ.zero = let l = ltb-true b 128 (and_out (ascii b) (list_all ascii s) h).0 in omega arith
+ascii_bytes (b ∷ s) h (ℕ.suc i) = ascii_bytes s (and_out (ascii b) (list_all ascii s) h).1 i
 
 -- the text printed from a policy compiles to the policy's image, in each form
 pub printed_compiles : (form : ℕ) → known_form form ≡ true → (p : Policy) → Acceptable form p → CompilesTo form (text_of p) (image_of form p)
@@ -72,20 +71,10 @@ pub body_exactly : (bytes : List ℕ) → Bytes bytes → ((location : ℕ) × (
 unfolding body_answer load load_words
 body_exactly bytes bounded = (there, back)
   where
-    image_not : (location : ℕ) (contents : Contents) → load bytes ≡ Err (refusal Fault.ImageBody location) → load bytes ≡ Ok contents → ⊥
-    image_not location contents p q = let e : Ok contents ≡ Err (refusal Fault.ImageBody location) = sym q ∙ p in let z : ◌≡◌ {A = ℕ} 0 1 = cc in omega arith
-
     checked : (location : ℕ) → load bytes ≡ Err (refusal Fault.ImageBody location) → Answered bytes → Weighed bytes
     checked location e (late c q) = c
-    checked location e (early r) =
-        let a : refused_with (refusal Fault.ImageBody location) ≡ refused_with (refusal r.fault 0) = sym e ∙ r.refused in
-        let same : refusal Fault.ImageBody location ≡ refusal r.fault 0 = cc in
-        let b : Fault.ImageBody ≡ r.fault = ap (λ (x : Refusal). x.fault) same in
-        absurd (omega (arith, ap fault_number b, r.upto))
-    checked location e (weighted c w q) =
-        let a : refused_with (refusal Fault.ImageBody location) ≡ refused_with (refusal Fault.ImageWeightedSum 0) = sym e ∙ q in
-        let same : refusal Fault.ImageBody location ≡ refusal Fault.ImageWeightedSum 0 = cc in
-        absurd (omega (arith, ap (λ (x : Refusal). fault_number x.fault) same))
+    checked location e (early r) = absurd (grind (arith, r.refused, r.upto))
+    checked location e (weighted c w q) = absurd (grind arith)
 
     body : (rs cs : Result (List PolicyLine) ℕ) → load bytes ≡ body_answer (form_byte (words_of bytes)) (rule_part (words_of bytes)) (constraint_part (words_of bytes)) rs cs → ¬ SomeText bytes
         → (location : ℕ) × (load bytes ≡ Err (refusal Fault.ImageBody location))
@@ -94,7 +83,7 @@ body_exactly bytes bounded = (there, back)
     body (Err at) cs e n = (at, e)
 
     there : (location : ℕ) × (load bytes ≡ Err (refusal Fault.ImageBody location)) → Weighed bytes × ¬ SomeText bytes
-    there x = (checked x.0 x.1 (answered bytes), λ s. let t = (taken_exactly bytes bounded).1 s in image_not x.0 t.0 x.1 t.1)
+    there x = (checked x.0 x.1 (answered bytes), λ s. cc (x.1, ((taken_exactly bytes bounded).1 s).1))
 
     back : Weighed bytes × ¬ SomeText bytes → (location : ℕ) × (load bytes ≡ Err (refusal Fault.ImageBody location))
     back x = body (rule_lines (words_of bytes)) (constraint_lines (words_of bytes)) (rw (x.0.checked.size, x.0.checked.form, x.0.checked.count, x.0.checked.check, x.0.weights)) x.1
@@ -104,11 +93,7 @@ pub faulty_exactly : (bytes : List ℕ) → Bytes bytes → ((r : Refusal) × Im
 faulty_exactly bytes bounded = (there, λ n. back n (load bytes) refl)
   where
     there : (r : Refusal) × ImageFault bytes r → ¬ SomeText bytes
-    there x s =
-        let t = (taken_exactly bytes bounded).1 s in
-        let e : Err x.0 ≡ Ok t.0 = sym ((image_refused_exactly bytes x.0).1 x.1) ∙ t.1 in
-        let z : ◌≡◌ {A = ℕ} 0 1 = cc in
-        omega arith
+    there x s = cc ((image_refused_exactly bytes x.0).1 x.1, ((taken_exactly bytes bounded).1 s).1)
 
     back : ¬ SomeText bytes → (l : Result Contents Refusal) → load bytes ≡ l → (r : Refusal) × ImageFault bytes r
     back n (Err r) e = (r, (image_refused_exactly bytes r).0 e)

@@ -1,24 +1,21 @@
 -- When an action is explained, what is told of it, and which part of which text is shown.
-use Rattle.std.proofs.Common.{ℕ, ◌<◌, Bool, true, false, cond, ◌&&◌, List, [], ◌∷◌, ◌++◌, Contains, ◌↔◌, ◌≡◌, refl, sym, ap, ◌∙◌, subst, arith, lt-ltb, le-ltb, ltb-true, ltb-false, eqb-true, eq-eqb, Result}
+use Rattle.std.proofs.Common.{ℕ, ◌<◌, ◌≤◌, ⊎_elim, Bool, true, false, List, [], ◌∷◌, ◌++◌, Contains, ◌↔◌, ◌≡◌, refl, sym, ap, ◌∙◌, subst, arith, lt-ltb, le-ltb, Result, Some, Ok, Err}
 use Rattle.std.specs.Result.{result_ok}
-use Rattle.std.specs.Prelude.{Option, Some, None, Ok, Err}
-use Rattle.std.specs.Option.{option_map_or}
 use Rattle.std.proofs.Math.Path.{subst⁻¹}
-use Rattle.std.proofs.Math.Dec.{ltb}
+use Rattle.std.proofs.lemmas.Bool.Decides.{nat_tests}
 use Rattle.policy.proofs.ListLaws.{true_false, and_in, and_out, contains_first, contains_one}
 use Rattle.policy.specs.declared.epoch.Epoch.{Epoch}
 use Rattle.policy.specs.Fault.{refusal}
 use Rattle.policy.specs.Line.{PolicyLine, rule, constraint}
-use Rattle.policy.specs.Number.{check_action}
-use Rattle.policy.proofs.ResultLaws.{known}
-use Rattle.policy.specs.Policy.{Policy, Rule}
+use Rattle.policy.specs.Number.{set_limit}
+use Rattle.policy.proofs.ResultLaws.{known, and_then_ok, and_then_err}
+use Rattle.policy.specs.Policy.{Policy}
 use Rattle.policy.specs.Result.{result_and_then}
 use Rattle.policy.specs.declared.effect.Effect.{Effect}
-use Rattle.policy.specs.Set.{ActionSet, EventSet, all_events, has_action, insert_action, actions_below}
+use Rattle.policy.specs.Set.{ActionSet, EventSet, all_events, has_action}
 use Rattle.policy.specs.declared.fault.Fault.{Fault}
 use Rattle.policy.specs.declared.fault.Refusal.{Refusal}
 use Rattle.policy.specs.declared.number.Action.{Action}
-use Rattle.policy.specs.declared.set.Events.{Events}
 use Rattle.pdl.proofs.Monitor.{accepted_within, cancelled_apart, cancelled_trial}
 use Rattle.pdl.proofs.Proposals.{rule_holds_is, rule_derives, proposals_derived}
 use Rattle.pdl.proofs.Resolution.{holds_in, holds_out}
@@ -30,12 +27,11 @@ use Rattle.epoch_line.specs.Epoch.{read_epoch}
 use Rattle.acceptance.proofs.Forms.{texts_newer}
 use Rattle.acceptance.proofs.Texts.{site_empty}
 use Rattle.codegen.specs.Compile.{newest_form}
-use Rattle.guarantees.specs.Machine.{next_epoch}
-use Rattle.guarantees.proofs.NextLaws.{NoNext, no_epoch, is_reserved, next_out, next_refused}
+use Rattle.guarantees.specs.Machine.{on_named, next_epoch}
 use Rattle.rule_text.specs.Text.{read_text, read_texts, policy_of_texts}
 use Rattle.codegen.specs.Steps.Put.{lines_of_both}
 use Rattle.monitor.specs.Decision.{decision, answer_of}
-use Rattle.explanation.specs.Part.{Stretch, Quote, of_maker, of_site, first_shown}
+use Rattle.explanation.specs.Part.{Stretch, Quote, of_maker, of_site}
 use Rattle.explanation.specs.Why.{causes, is_proposing_rule, is_cancelling_constraint, Explanation, not_proposed, accepted_by, cancelled_by, explanation_for, on_action, on_events, on_epoch, explained, quoted}
 use Rattle.guarantees.proofs.Decisions.{written_yields}
 use Rattle.guarantees.proofs.Agreement.{image_of_texts, alone_writes}
@@ -62,102 +58,72 @@ module _ (maker site : List ℕ) (pending : EventSet) (line : List ℕ) (n : ℕ
   on_texts p e = ap by_texts (known (read_texts newest_form maker site) p e)
 
   -- of the epoch of the line, or for what there is none
-  on_next : (p : Policy) (a : Result Epoch Refusal) → next_epoch p pending line ≡ a → on_epoch maker site p pending n (read_epoch line) ≡ result_and_then (on_events maker site p n) a
-  unfolding on_epoch
-  on_next p (Err r) h = go (next_refused p pending line r h)
-    where
-      go : NoNext p line r → on_epoch maker site p pending n (read_epoch line) ≡ Err r
-      go (no_epoch q) = ap (on_epoch maker site p pending n) q
-      go (is_reserved named q k w) = ap (on_epoch maker site p pending n) q ∙ rw k (ap Err (sym w))
-  on_next p (Ok e) h =
-      let x = next_out p pending line e h in
-      ap (on_epoch maker site p pending n) x.read ∙ rw x.free (ap (on_events maker site p n) x.whole)
+  -- of the epoch of the line, or for what there is none
+  on_next : (p : Policy) → on_epoch maker site p pending n (read_epoch line) ≡ result_and_then (on_events maker site p n) (next_epoch p pending line)
+  unfolding on_epoch next_epoch on_named
+  on_next p = grind arith
 
-  on_line : (p : Policy) → policy_of_texts newest_form maker site ≡ Some p → (e : Epoch) → next_epoch p pending line ≡ Ok e
-      → explained maker site pending line n ≡ on_action maker site (Yield.accepted p e) (Yield.cancelled p e) e (check_action n)
-  unfolding on_events
-  on_line p q e r = on_texts p q ∙ on_next p (Ok e) r
+  on_line : (p : Policy) → policy_of_texts newest_form maker site ≡ Some p → explained maker site pending line n ≡ result_and_then (on_events maker site p n) (next_epoch p pending line)
+  on_line p q = on_texts p q ∙ on_next p
 
   explanation_is : (q : IsExplainable maker site pending line n) → explained maker site pending line n ≡ Ok (explanation maker site q.policy q.epoch (action n))
-  unfolding on_action
-  explanation_is q = on_line q.policy q.both q.epoch q.read ∙ rw (lt-ltb n 64 q.number)
+  unfolding on_events on_action
+  explanation_is q = on_line q.policy q.both ∙ rw (q.read, lt-ltb n 64 q.number)
 
   unexplained : (r : Refusal) → Unexplained maker site pending line n r → explained maker site pending line n ≡ Err r
-  unfolding explained on_action
+  unfolding explained on_events on_action
   unexplained r (the_texts q) = ap by_texts q
-  unexplained r (the_line p q k) = on_texts p q ∙ on_next p (Err r) k
-  unexplained r (the_action p q e k over w) = on_line p q e k ∙ rw (le-ltb n 64 over, w)
+  unexplained r (the_line p q k) = on_line p q ∙ rw k
+  unexplained r (the_action p q e k over w) = on_line p q ∙ rw (k, le-ltb n 64 over, w)
 
-  data Explaining : Type 0 where
-    refuses : (r : Refusal) → Unexplained maker site pending line n r → Explaining
-    explains : IsExplainable maker site pending line n → Explaining
+  module _ (p : Policy) (e : Epoch) where
+    number_fits : (why : Explanation) → on_events maker site p n e ≡ Ok why → n < set_limit
+    unfolding on_events on_action
+    number_fits why h = grind (arith, nat_tests)
 
-  explaining : Explaining
-  explaining = texts (read_texts newest_form maker site) refl
-    where
-      number : (p : Policy) → policy_of_texts newest_form maker site ≡ Some p → (e : Epoch) → next_epoch p pending line ≡ Ok e → (b : Bool) → ltb n 64 ≡ b → Explaining
-      number p q e k true l = explains (record { policy = p; both = q; epoch = e; read = k; number = ltb-true n 64 l })
-      number p q e k false l = refuses (refusal Fault.EpochRange 0) (the_action p q e k (ltb-false n 64 l) refl)
-
-      epoch : (p : Policy) → policy_of_texts newest_form maker site ≡ Some p → (a : Result Epoch Refusal) → next_epoch p pending line ≡ a → Explaining
-      epoch p q (Err r) k = refuses r (the_line p q k)
-      epoch p q (Ok e) k = number p q e k (ltb n 64) refl
-
-      texts : (s : Result Policy Refusal) → read_texts newest_form maker site ≡ s → Explaining
-      texts (Err r) k = refuses r (the_texts k)
-      texts (Ok p) k = epoch p (ap result_ok k) (next_epoch p pending line) refl
+    number_over : (r : Refusal) → on_events maker site p n e ≡ Err r → (set_limit ≤ n) × (r ≡ refusal Fault.EpochRange 0)
+    unfolding on_events on_action
+    number_over r h = grind (arith, nat_tests)
 
   -- an explanation is refused exactly for these, in this order
   pub explained_refused : (r : Refusal) → (explained maker site pending line n ≡ Err r) ↔ Unexplained maker site pending line n r
-  explained_refused r = (go explaining, unexplained r)
+  unfolding explained
+  explained_refused r = (λ h. ⊎_elim the_texts (λ t. past t.0 (ap result_ok t.1) t.2) (and_then_err _ (read_texts newest_form maker site) r h), unexplained r)
     where
-      go : Explaining → explained maker site pending line n ≡ Err r → Unexplained maker site pending line n r
-      go (refuses x u) e = let w : x ≡ r = cc (unexplained x u) in subst (Unexplained maker site pending line n) w u
-      go (explains q) e = let w : ◌≡◌ {A = ℕ} 0 1 = cc (explanation_is q) in absurd (omega arith)
+      past : (p : Policy) → policy_of_texts newest_form maker site ≡ Some p → on_epoch maker site p pending n (read_epoch line) ≡ Err r → Unexplained maker site pending line n r
+      past p q h =
+          ⊎_elim (the_line p q) (λ e. let o = number_over p e.0 r e.2 in the_action p q e.0 e.1 o.0 o.1)
+          (and_then_err (on_events maker site p n) (next_epoch p pending line) r (sym (on_next p) ∙ h))
 
   -- and there is one exactly where the texts, the line and the number pass
   pub explained_exactly : ((why : Explanation) × (explained maker site pending line n ≡ Ok why)) ↔ IsExplainable maker site pending line n
-  explained_exactly = (λ e. go explaining e.0 e.1, λ q. (_, explanation_is q))
+  unfolding explained
+  explained_exactly = (there, λ q. (_, explanation_is q))
     where
-      go : Explaining → (why : Explanation) → explained maker site pending line n ≡ Ok why → IsExplainable maker site pending line n
-      go (refuses x u) why e = let w : ◌≡◌ {A = ℕ} 0 1 = cc (unexplained x u) in absurd (omega arith)
-      go (explains q) why e = q
+      there : (why : Explanation) × (explained maker site pending line n ≡ Ok why) → IsExplainable maker site pending line n
+      there (why, h) =
+          let t = and_then_ok _ (read_texts newest_form maker site) why h in
+          let e = and_then_ok (on_events maker site t.0 n) (next_epoch t.0 pending line) why (sym (on_next t.0) ∙ t.2) in
+          record { policy = t.0; both = ap result_ok t.1; epoch = e.0; read = e.1; number = number_fits t.0 e.0 why e.2 }
 
 -- ---- which lines say so
 
 causes_is : (a : Action) (x : Effect) → causes a x ≡ true → x ≡ Effect.Causes a
 unfolding causes
-causes_is a (Effect.Causes b) h = ap (λ (n : ℕ). Effect.Causes (record { 0 = n })) (eqb-true b.0 a.0 h)
-causes_is a (Effect.Triggers e) h = absurd (true_false h refl)
+causes_is a x h = grind (arith, nat_tests)
 
 causes_own : (a : Action) → causes a (Effect.Causes a) ≡ true
 unfolding causes
-causes_own a = eq-eqb a.0 a.0 refl
+causes_own a = grind (arith, nat_tests)
 
 -- a line passes a test of the definitions exactly where it says so in the terms of specs/Pdl of `pdl`
 proposed_means : (e : Epoch) (a : Action) → a.0 < 64 → (l : PolicyLine) → (is_proposing_rule e a l ≡ true) ↔ Proposes e a l
 unfolding is_proposing_rule
-proposed_means e a small (constraint c) = (λ h. true_false h refl, λ h. absurd h)
-proposed_means e a small (rule r) = (there, back)
-  where
-    ev : Events
-    ev = all_events e.events
-
-    there : rule_holds ev e.readings r && causes a r.effect ≡ true → Derives (r ∷ []) ev e.readings (Effect.Causes a)
-    there h =
-        let x = and_out (rule_holds ev e.readings r) (causes a r.effect) h in
-        subst (Derives (r ∷ []) ev e.readings) (causes_is a r.effect x.1) (rule_derives (r ∷ []) ev e.readings r (contains_first r []) x.0)
-
-    back : Derives (r ∷ []) ev e.readings (Effect.Causes a) → rule_holds ev e.readings r && causes a r.effect ≡ true
-    back d =
-        let w : r ≡ d.rule = contains_one r d.rule d.listed in
-        and_in (ap (rule_holds ev e.readings) w ∙ rule_holds_is ev e.readings d.rule d.event d.condition)
-        (ap (λ (x : Rule). causes a x.effect) w ∙ ap (causes a) d.effect ∙ causes_own a)
+proposed_means e a small l = grind (arith, true_false, and_out, causes_is, rule_derives, contains_first, contains_one, and_in, rule_holds_is, causes_own)
 
 cancelled_means : (e : Epoch) (accepts : ActionSet) (a : Action) (l : PolicyLine) → (is_cancelling_constraint e.readings accepts a l ≡ true) ↔ Cancels e accepts a l
 unfolding is_cancelling_constraint
-cancelled_means e accepts a (rule r) = (λ h. true_false h refl, λ h. absurd h)
-cancelled_means e accepts a (constraint c) = (holds_out e.readings (insert_action (actions_below accepts a) a) c, holds_in e.readings (insert_action (actions_below accepts a) a) c)
+cancelled_means e accepts a l = grind (arith, true_false, holds_out, holds_in)
 
 -- ---- what is told, and what is shown
 
@@ -189,52 +155,29 @@ module _ (maker site : List ℕ) (p : Policy) (e : Epoch) (a : Action) (small : 
   unfolding explanation_for
   case_of = go (has_action (Yield.accepted p e) a) (has_action (Yield.cancelled p e) a) refl refl
     where
-      go : (x y : Bool) → has_action (Yield.accepted p e) a ≡ x → has_action (Yield.cancelled p e) a ≡ y
-          → Explains (cond x (option_map_or accepted_by (first_shown (is_proposing_rule e a) maker site) not_proposed)
-          (cond y (option_map_or cancelled_by (first_shown (is_cancelling_constraint e.readings (Yield.accepted p e) a) maker site) not_proposed) not_proposed))
-      go true y h k = let f = by_rule h in of_accepted h f.shown (ap (λ (o : Option Quote). option_map_or accepted_by o not_proposed) f.found) f.line
-      go false true h k = let f = by_constraint k in of_cancelled k f.shown (ap (λ (o : Option Quote). option_map_or cancelled_by o not_proposed) f.found) f.line
-      go false false h k = of_neither h k refl
+      go : (x y : Bool) → has_action (Yield.accepted p e) a ≡ x → has_action (Yield.cancelled p e) a ≡ y → Explains (explanation maker site p e a)
+      go true y h k = let f = by_rule h in of_accepted h f.shown (rw (h, f.found)) f.line
+      go false true h k = let f = by_constraint k in of_cancelled k f.shown (rw (h, k, f.found)) f.line
+      go false false h k = of_neither h k (rw (h, k))
 
   not_both : has_action (Yield.accepted p e) a ≡ true → has_action (Yield.cancelled p e) a ≡ false
-  not_both h = go (has_action (Yield.cancelled p e) a) refl
-    where
-      go : (y : Bool) → has_action (Yield.cancelled p e) a ≡ y → has_action (Yield.cancelled p e) a ≡ false
-      go true k = absurd (true_false h (cancelled_apart p e a k))
-      go false k = k
+  not_both h = grind (arith, cancelled_apart p e a)
 
   tells : (x : Explanation) → Explains x → TellsOutcome (yield_of p e) a x
-  tells x (of_accepted h s q f) = subst⁻¹ (TellsOutcome (yield_of p e) a) q (h, not_both h)
-  tells x (of_cancelled h s q f) = subst⁻¹ (TellsOutcome (yield_of p e) a) q (cancelled_apart p e a h, h)
-  tells x (of_neither h k q) = subst⁻¹ (TellsOutcome (yield_of p e) a) q (h, k)
+  tells x f = grind (arith, not_both, cancelled_apart p e a)
 
   straight : (Says : PolicyLine → Type 0) (s : Quote) → FirstLine Says p maker site s → QuotedStraight maker site s
   straight Says (of_maker x) f = f.straight
   straight Says (of_site x) f = f.1.straight
 
   shows_rule : (x : Explanation) → Explains x → (shown : Quote) → x ≡ accepted_by shown → FirstLine (Proposes e a) p maker site shown
-  shows_rule x (of_accepted h s q f) shown k = let w : s ≡ shown = cc in subst (FirstLine (Proposes e a) p maker site) w f
-  shows_rule x (of_cancelled h s q f) shown k = let w : ◌≡◌ {A = ℕ} 0 1 = cc in absurd (omega arith)
-  shows_rule x (of_neither h i q) shown k = let w : ◌≡◌ {A = ℕ} 0 1 = cc in absurd (omega arith)
+  shows_rule x f shown k = grind arith
 
   shows_constraint : (x : Explanation) → Explains x → (shown : Quote) → x ≡ cancelled_by shown → FirstLine (Cancels e (Yield.accepted p e) a) p maker site shown
-  shows_constraint x (of_accepted h s q f) shown k = let w : ◌≡◌ {A = ℕ} 0 1 = cc in absurd (omega arith)
-  shows_constraint x (of_cancelled h s q f) shown k = let w : s ≡ shown = cc in subst (FirstLine (Cancels e (Yield.accepted p e) a) p maker site) w f
-  shows_constraint x (of_neither h i q) shown k = let w : ◌≡◌ {A = ℕ} 0 1 = cc in absurd (omega arith)
+  shows_constraint x f shown k = grind arith
 
   shows_straight : (x : Explanation) → Explains x → (shown : Quote) → quoted x ≡ Some shown → QuotedStraight maker site shown
-  shows_straight x (of_accepted h s q f) shown k =
-      let v : Some s ≡ Some shown = sym (ap quoted q) ∙ k in
-      let w : s ≡ shown = cc in
-      subst (QuotedStraight maker site) w (straight (Proposes e a) s f)
-  shows_straight x (of_cancelled h s q f) shown k =
-      let v : Some s ≡ Some shown = sym (ap quoted q) ∙ k in
-      let w : s ≡ shown = cc in
-      subst (QuotedStraight maker site) w (straight (Cancels e (Yield.accepted p e) a) s f)
-  shows_straight x (of_neither h i q) shown k =
-      let v : None ≡ Some shown = sym (ap quoted q) ∙ k in
-      let w : ◌≡◌ {A = ℕ} 0 1 = cc in
-      absurd (omega arith)
+  shows_straight x f shown k = grind (arith, straight)
 
 module _ (maker site : List ℕ) (pending : EventSet) (line : List ℕ) (n : ℕ) (q : IsExplainable maker site pending line n) where
   -- the sets that the policy of both texts yields are those of the decision on the image of both
@@ -288,8 +231,8 @@ outcome_told maker site pending line n why h form image c =
 
 no_part : (before part behind : List ℕ) → [] ≡ before ++ (part ++ behind) → part ≡ []
 no_part [] [] behind e = refl
-no_part [] (b ∷ part) behind e = let w : ◌≡◌ {A = ℕ} 0 1 = cc in absurd (omega arith)
-no_part (b ∷ before) part behind e = let w : ◌≡◌ {A = ℕ} 0 1 = cc in absurd (omega arith)
+no_part [] (b ∷ part) behind e = absurd cc
+no_part (b ∷ before) part behind e = absurd cc
 
 module _ (maker : List ℕ) (pending : EventSet) (line : List ℕ) (n : ℕ) where
   -- the answer, refused or not, is by what was read of the maker's text alone

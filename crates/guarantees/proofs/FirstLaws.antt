@@ -1,9 +1,8 @@
 -- The first line of both texts that passes a test: where some line of their policy does, one is shown, and it is the first.
-use Rattle.std.proofs.Common.{ℕ, zero, suc, ◌+◌, Bool, true, false, cond, List, [], ◌∷◌, ◌++◌, ◌↔◌, ◌⊎◌, inl, inr, ⊎_elim, ◌≡◌, refl, sym, ap, ap₂, ◌∙◌, subst, Contains, add-one, arith, length, drop}
-use Rattle.std.specs.Prelude.{Option, Some, None, Result, Ok, Err}
+use Rattle.std.proofs.Common.{ℕ, suc, ◌+◌, Bool, true, false, cond, List, [], ◌∷◌, ◌++◌, ◌↔◌, ◌⊎◌, ⊎_elim, ◌≡◌, refl, sym, ap, ap₂, ◌∙◌, subst, Contains, add-one, arith, length, drop, Option, Some, None, Result, Ok, Err}
 use Rattle.std.proofs.Math.Path.{subst⁻¹}
 use Rattle.std.proofs.lemmas.List.Elements.{Contains-append_left, Contains-append_right, Contains-append_cases}
-use Rattle.policy.proofs.ListLaws.{true_false, contains_cases, contains_first, contains_later}
+use Rattle.policy.proofs.ListLaws.{contains_cases, contains_first, contains_later}
 use Rattle.policy.proofs.ResultLaws.{and_then_ok, in_text_ok}
 use Rattle.policy.specs.Fault.{in_text}
 use Rattle.policy.specs.Line.{PolicyLine, rule, constraint}
@@ -17,7 +16,7 @@ use Rattle.syntax.specs.Judge.{line_answer}
 use Rattle.syntax.specs.Lines.{TextLine, before_later, lines_from, lines_in}
 use Rattle.rule_text.specs.Answer.{counts_of, counted, texts_read}
 use Rattle.rule_text.proofs.ReadLaws.{LineRead, line_reads, lines_read, behind_read}
-use Rattle.rule_text.specs.Text.{read_line, read_lines, empty_policy, read_text_behind, read_text, read_texts}
+use Rattle.rule_text.specs.Text.{read_lines, empty_policy, read_text_behind, read_text, read_texts}
 use Rattle.codegen.proofs.AcceptedLaws.{accepted_texts, newest_known}
 use Rattle.codegen.specs.Compile.{newest_form}
 use Rattle.codegen.specs.Steps.Put.{accepted_lines, lines_of_both}
@@ -30,28 +29,22 @@ use Rattle.guarantees.specs.Explanations.{Listed, ended_length, Trimmed, FirstOf
 pub rule_line : (ls : List PolicyLine) (r : Rule) → Contains (rules_in ls) r → Contains ls (rule r)
 unfolding rules_in
 rule_line [] r m = absurd (omega (arith, m.1))
-rule_line (rule k ∷ ls) r (zero, l, q) = (0, omega arith, ap rule q)
-rule_line (rule k ∷ ls) r (suc n, l, q) = contains_later (rule k) ls (rule r) (rule_line ls r (n, omega arith, q))
+rule_line (rule k ∷ ls) r m = grind (arith, contains_cases k (rules_in ls) r m, contains_first, contains_later, rule_line ls r)
 rule_line (constraint c ∷ ls) r m = contains_later (constraint c) ls (rule r) (rule_line ls r m)
 
 pub constraint_line : (ls : List PolicyLine) (c : Constraint) → Contains (constraints_in ls) c → Contains ls (constraint c)
 unfolding constraints_in
 constraint_line [] c m = absurd (omega (arith, m.1))
 constraint_line (rule r ∷ ls) c m = contains_later (rule r) ls (constraint c) (constraint_line ls c m)
-constraint_line (constraint k ∷ ls) c (zero, l, q) = (0, omega arith, ap constraint q)
-constraint_line (constraint k ∷ ls) c (suc n, l, q) = contains_later (constraint k) ls (constraint c) (constraint_line ls c (n, omega arith, q))
+constraint_line (constraint k ∷ ls) c m = grind (arith, contains_cases k (constraints_in ls) c m, contains_first, contains_later, constraint_line ls c)
 
 line_listed : (ls : List PolicyLine) (l : PolicyLine) → Contains ls l → Listed (record { rules = rules_in ls; constraints = constraints_in ls }) l
 unfolding rules_in constraints_in
 line_listed [] l m = absurd (omega (arith, m.1))
-line_listed (rule k ∷ ls) (rule r) (zero, i, q) = let w : k ≡ r = cc in (0, omega arith, w)
-line_listed (constraint k ∷ ls) (rule r) (zero, i, q) = let z : ⊥ = cc in absurd z
-line_listed (rule k ∷ ls) (constraint c) (zero, i, q) = let z : ⊥ = cc in absurd z
-line_listed (constraint k ∷ ls) (constraint c) (zero, i, q) = let w : k ≡ c = cc in (0, omega arith, w)
-line_listed (rule k ∷ ls) (rule r) (suc n, i, q) = contains_later k (rules_in ls) r (line_listed ls (rule r) (n, omega arith, q))
-line_listed (constraint k ∷ ls) (rule r) (suc n, i, q) = line_listed ls (rule r) (n, omega arith, q)
-line_listed (rule k ∷ ls) (constraint c) (suc n, i, q) = line_listed ls (constraint c) (n, omega arith, q)
-line_listed (constraint k ∷ ls) (constraint c) (suc n, i, q) = contains_later k (constraints_in ls) c (line_listed ls (constraint c) (n, omega arith, q))
+line_listed (rule k ∷ ls) (rule r) m = grind (arith, contains_cases (rule k) ls (rule r) m, contains_first, contains_later, line_listed ls (rule r))
+line_listed (constraint k ∷ ls) (rule r) m = grind (arith, contains_cases (constraint k) ls (rule r) m, line_listed ls (rule r))
+line_listed (rule k ∷ ls) (constraint c) m = grind (arith, contains_cases (rule k) ls (constraint c) m, line_listed ls (constraint c))
+line_listed (constraint k ∷ ls) (constraint c) m = grind (arith, contains_cases (constraint k) ls (constraint c) m, contains_first, contains_later, line_listed ls (constraint c))
 
 -- ---- lines that were read
 
@@ -65,21 +58,16 @@ held [] n text p q e line i l k = absurd (omega (arith, i.1))
 held (x ∷ ls) n text p q e line i l k =
     let r = lines_read newest_form n p x ls q e in
     let one : n + 1 ≡ suc n = add-one n in
-    go r.0 r.1 (line_reads newest_form p x) (contains_cases x ls line i) (rw one (held ls (suc n) (drop (suc (length x)) text) r.0 q r.2))
+    go (line_reads newest_form p x) (contains_cases x ls line i) (rw one (held ls (suc n) (drop (suc (length x)) text) r.0 q r.2))
   where
     behind : List (Result TextLine Refusal)
     behind = lines_from newest_form (n + 1) (drop (suc (length x)) text) ls
 
-    go : (m : Policy) → read_line newest_form p x ≡ Ok m → LineRead newest_form p x → (x ≡ line) ⊎ Contains ls line → Held ls behind → Contains (accepted_lines (before_later n text x (line_answer newest_form x) behind)) l
-    go m r (LineRead.skips a s) (inl w) later = let v : line_answer newest_form x ≡ line_answer newest_form line = ap (line_answer newest_form) w in let z : ⊥ = cc in absurd z
-    go m r (LineRead.skips a s) (inr j) later = rw a (later line j l k)
-    go m r (LineRead.fails f a s) c later = let z : ⊥ = cc in absurd z
-    go m r (LineRead.adds y a h s) (inl w) later =
-        let v : line_answer newest_form x ≡ line_answer newest_form line = ap (line_answer newest_form) w in
-        let i : y ≡ l = cc in
-        rw a (0, omega arith, i)
-    go m r (LineRead.adds y a h s) (inr j) later = rw a (contains_later y (accepted_lines behind) l (later line j l k))
-    go m r (LineRead.is_over y a h s) c later = let z : ⊥ = cc in absurd z
+    go : LineRead newest_form p x → (x ≡ line) ⊎ Contains ls line → Held ls behind → Contains (accepted_lines (before_later n text x (line_answer newest_form x) behind)) l
+    go (LineRead.skips a s) c later = grind (arith, c, a, later line)
+    go (LineRead.fails f a s) c later = absurd (cc (lines_read newest_form n p x ls q e).1)
+    go (LineRead.adds y a h s) c later = rw a (⊎_elim (λ w. (0, omega arith, cc)) (λ j. contains_later y (accepted_lines behind) l (later line j l k)) c)
+    go (LineRead.is_over y a h s) c later = absurd (cc (lines_read newest_form n p x ls q e).1)
 
 -- ---- the first line of a text that passes
 
@@ -130,43 +118,26 @@ module _ (test : PolicyLine → Bool) where
 
   found : (lines : List (List ℕ)) (at : ℕ) (shown : Stretch) → first_from test at lines ≡ Some shown → Found at lines shown
   unfolding first_from or_later
-  found [] at shown e = let w : ◌≡◌ {A = ℕ} 0 1 = cc in absurd (omega arith)
+  found [] at shown e = absurd cc
   found (line ∷ lines) at shown e = go (line_answer newest_form line) refl (found lines (at + length line + 1) shown) e
     where
       next : Option Stretch
       next = first_from test (at + length line + 1) lines
 
       go : (a : Result (Option PolicyLine) Fault) → line_answer newest_form line ≡ a → (next ≡ Some shown → Found (at + length line + 1) lines shown) → or_later test a at line next ≡ Some shown → Found at (line ∷ lines) shown
-      go (Ok None) k rec h = found_later at line lines shown (λ l j t. let w : ◌≡◌ {A = ℕ} 0 1 = cc in omega arith) (rec h)
-      go (Err f) k rec h = let w : ◌≡◌ {A = ℕ} 0 1 = cc in absurd (omega arith)
+      go (Ok None) k rec h = found_later at line lines shown (λ l j t. cc) (rec h)
+      go (Err f) k rec h = absurd cc
       go (Ok (Some l)) k rec h = passing (test l) refl h
         where
           passing : (b : Bool) → test l ≡ b → cond b (Some (shown_at at line)) next ≡ Some shown → Found at (line ∷ lines) shown
-          passing true t v = let w : shown_at at line ≡ shown = cc in found_here at line lines shown l k t w
-          passing false t v = found_later at line lines shown (λ m j u. let w : l ≡ m = cc in true_false (ap test w ∙ u) t) (rec v)
+          passing true t v = found_here at line lines shown l k t cc
+          passing false t v = found_later at line lines shown (λ m j u. cc) (rec v)
 
   -- where none is found, no line of the policy passes
   none_found : (lines : List (List ℕ)) (n at : ℕ) (text : List ℕ) → first_from test at lines ≡ None → (l : PolicyLine) → Contains (accepted_lines (lines_from newest_form n text lines)) l → test l ≡ true → ⊥
   unfolding first_from or_later accepted_lines lines_from before_later
   none_found [] n at text e l m t = omega (arith, m.1)
-  none_found (line ∷ lines) n at text e l m t = go (line_answer newest_form line) (none_found lines (n + 1) (at + length line + 1) (drop (suc (length line)) text)) e m
-    where
-      behind : List (Result TextLine Refusal)
-      behind = lines_from newest_form (n + 1) (drop (suc (length line)) text) lines
-
-      next : Option Stretch
-      next = first_from test (at + length line + 1) lines
-
-      go : (a : Result (Option PolicyLine) Fault) → (next ≡ None → (l : PolicyLine) → Contains (accepted_lines behind) l → test l ≡ true → ⊥)
-          → or_later test a at line next ≡ None → Contains (accepted_lines (before_later n text line a behind)) l → ⊥
-      go (Ok None) rec h i = rec h l i t
-      go (Err f) rec h i = omega (arith, i.1)
-      go (Ok (Some k)) rec h i = passing (test k) refl h (contains_cases k (accepted_lines behind) l i)
-        where
-          passing : (b : Bool) → test k ≡ b → cond b (Some (shown_at at line)) next ≡ None → (k ≡ l) ⊎ Contains (accepted_lines behind) l → ⊥
-          passing true q v c = let w : ◌≡◌ {A = ℕ} 0 1 = cc in omega arith
-          passing false q v (inl w) = true_false t (sym (ap test w) ∙ q)
-          passing false q v (inr j) = rec v l j t
+  none_found (line ∷ lines) n at text e l m t = grind (arith, none_found lines (n + 1) (at + length line + 1) (drop (suc (length line)) text))
 
 -- ---- of both texts
 

@@ -9,8 +9,7 @@ use Rattle.layout.specs.Layout.{known_form, image_of}
 use Rattle.monitor.specs.Decision.{advanced, answer_of}
 use Rattle.monitor.specs.declared.decision.Actions.{Actions}
 use Rattle.monitor.specs.declared.state.Decided.{Decided}
-use Rattle.pdl.specs.Answer.{Answer}
-use Rattle.guarantees.specs.Machine.{steps, next_set}
+use Rattle.guarantees.specs.Machine.{steps}
 use Rattle.guarantees.specs.Together.{told, decided_lines}
 use Rattle.guarantees.specs.declared.Told.{Told}
 use Rattle.guarantees.proofs.Agreement.{same_answer, same_pending}
@@ -31,15 +30,13 @@ module _ (image : List ℕ) (other : Told) where
   one_more [] pending ds i h k = absurd (omega (arith, h))
   one_more (x ∷ lines) pending [] i h k = absurd (omega (arith, k))
   one_more (x ∷ lines) pending (d ∷ ds) zero h k = refl
-  one_more (x ∷ lines) pending (d ∷ ds) (suc i) h k =
-      let next : Decided = advanced x.mode image pending x.line.now in
-      simp unary_clauses (ap (λ r. next.answer ∷ r) (simp unary_clauses at (one_more lines next.pending ds i (omega (arith, h)) (omega (arith, k)))))
+  one_more (x ∷ lines) pending (d ∷ ds) (suc i) h k = grind (arith, unary_clauses, one_more lines (advanced x.mode image pending x.line.now).pending ds i)
 
   pub pending_more : (lines : List Told) (pending : EventSet) (i : ℕ) → i < length lines → (decided_at pending lines i).pending ≡ pending_behind image pending (take (i + 1) lines)
   unfolding pending_behind
   pending_more [] pending i h = absurd (omega (arith, h))
   pending_more (x ∷ lines) pending zero h = refl
-  pending_more (x ∷ lines) pending (suc i) h = simp unary_clauses (simp unary_clauses at (pending_more lines (advanced x.mode image pending x.line.now).pending i (omega (arith, h))))
+  pending_more (x ∷ lines) pending (suc i) h = grind (arith, unary_clauses, pending_more lines (advanced x.mode image pending x.line.now).pending i)
 
   -- a line more is decided
   pub line_decided : (lines : List Told) (old now : List (Result Actions Refusal)) (i : ℕ) (before after : EventSet) (answer : Result Actions Refusal)
@@ -58,12 +55,9 @@ pub all_done : (image : List ℕ) (lines : List Told) (pending : EventSet) (ds :
 unfolding decided_lines
 all_done image [] pending ds zero h = refl
 all_done image [] pending ds (suc n) h = refl
-all_done image (x ∷ lines) pending [] zero h = refl
-all_done image (x ∷ lines) pending [] (suc n) h = refl
+all_done image (x ∷ lines) pending [] n h = grind arith
 all_done image (x ∷ lines) pending (d ∷ ds) zero h = absurd (omega (arith, h))
-all_done image (x ∷ lines) pending (d ∷ ds) (suc n) h =
-    let next : Decided = advanced x.mode image pending x.line.now in
-    ap (λ r. next.answer ∷ r) (all_done image lines next.pending ds n (omega (arith, h)))
+all_done image (x ∷ lines) pending (d ∷ ds) (suc n) h = cc (all_done image lines (advanced x.mode image pending x.line.now).pending ds n (omega (arith, h)))
 
 module _ (form : ℕ) (known : known_form form ≡ true) (p : Policy) (ok : Acceptable form p) where
   lines_agree : (lines : List Told) (pending : EventSet) (ds : List (Result Actions Refusal)) (n : ℕ) → n ≡ min (length lines) (length ds)
@@ -75,10 +69,7 @@ module _ (form : ℕ) (known : known_form form ≡ true) (p : Policy) (ok : Acce
   lines_agree (x ∷ lines) pending [] zero h = refl
   lines_agree (x ∷ lines) pending [] (suc n) h = refl
   lines_agree (x ∷ lines) pending (d ∷ ds) zero h = absurd (omega (arith, h))
-  lines_agree (x ∷ lines) pending (d ∷ ds) (suc n) h =
-      ap₂ (λ (a : Answer) (rest : List Answer). a ∷ rest) (same_answer form known p ok x.mode pending x.line.now)
-      (ap (λ (s : EventSet). map answer_of (take n (decided_lines (image_of form p) s lines ds))) (same_pending form known p ok x.mode pending x.line.now)
-      ∙ lines_agree lines (next_set x.mode p pending x.line.now) ds n (omega (arith, h)))
+  lines_agree (x ∷ lines) pending (d ∷ ds) (suc n) h = grind (arith, same_answer, same_pending, lines_agree lines)
 
   pub decided_agree : (lines : List Told) (ds : List (Result Actions Refusal))
       → map answer_of (take (min (length lines) (length ds)) (decided_lines (image_of form p) no_events lines ds)) ≡ steps p no_events (take (length ds) (told lines))

@@ -1,7 +1,5 @@
 -- A constraint with one action and no comparison keeps that action out of every decision.
-use Rattle.std.specs.Prelude.{Some}
-use Rattle.std.proofs.Common.{ℕ, Bool, true, false, cond, List, Contains, ◌≡◌, refl, sym, ap, ◌∙◌, arith, Ok}
-use Rattle.std.proofs.Math.Path.{subst⁻¹}
+use Rattle.std.proofs.Common.{ℕ, Bool, true, false, cond, List, Contains, ◌≡◌, refl, sym, ap, ◌∙◌, arith, Ok, Some}
 use Rattle.policy.proofs.ListLaws.{not_true_is, contains_one}
 use Rattle.policy.proofs.SetLaws.{has_empty}
 use Rattle.policy.specs.declared.epoch.Epoch.{Epoch}
@@ -37,7 +35,7 @@ module _ (p : Policy) (e : Epoch) (a : Action) (listed : Contains p.constraints 
   kept_out Mode.Events = go (unavoidable p e) refl
     where
       go : (b : Bool) → unavoidable p e ≡ b → KeptOut p e a (cond b (refuses (refusal Fault.Unavoidable 0)) (issues (issued p e) (withheld p e)))
-      go true q = record { rejected = has_empty a.0; cancelled = λ r. let z : ◌≡◌ {A = ℕ} 0 1 = cc in absurd (omega arith) }
+      go true q = record { rejected = has_empty a.0; cancelled = λ r. absurd cc }
       go false q =
           let out = rejects (issued p e) (issued_satisfies p e q) in
           record {
@@ -51,8 +49,5 @@ pub lone_constraint_cancels : (form : ℕ) (maker site image : List ℕ) → Tex
 unfolding step answer
 lone_constraint_cancels form maker site image c p q x listed mode pending line e r =
     let t = image_of_texts form maker site image c in
-    let k : Some p ≡ Some t.policy = sym q ∙ t.read in
-    let same : t.policy ≡ p = cc in
-    subst⁻¹ (KeptOut p e x)
-    (ap (λ (i : List ℕ). answer_of (decision_in mode i pending line)) t.same ∙ same_answer form t.form_known t.policy t.acceptable mode pending line ∙ ap (λ (y : Policy). step mode y pending line) same ∙ ap (answer mode p) r)
-    (kept_out p e x listed mode)
+    let same : t.policy ≡ p = cc (q, t.read) in
+    rw (t.same, same_answer form t.form_known t.policy t.acceptable mode pending line, same, r) (kept_out p e x listed mode)

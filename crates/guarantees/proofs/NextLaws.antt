@@ -1,7 +1,5 @@
 -- The epoch of a line where events are pending: which there is, and what a line is refused for.
-use Rattle.std.specs.Prelude.{Ok, Err}
-use Rattle.std.proofs.Common.{Bool, true, false, cond, ◌||◌, List, ℕ, ◌⊎◌, inl, inr, Contains, ◌≡◌, refl, sym, ap, ◌∙◌}
-use Rattle.policy.proofs.ResultLaws.{and_then_ok, and_then_err}
+use Rattle.std.proofs.Common.{true, false, ◌||◌, List, ℕ, ◌⊎◌, ⊎_elim, Contains, ◌≡◌, arith, Ok, Err}
 use Rattle.policy.proofs.SetLaws.{has_union, has_limit, meets_out, meets_in}
 use Rattle.policy.specs.Fault.{refusal}
 use Rattle.policy.specs.Policy.{Policy, Rule}
@@ -34,36 +32,23 @@ pub data NoNext (p : Policy) (line : List ℕ) (r : Refusal) : Type 0 where
 module _ (p : Policy) (pending : EventSet) (line : List ℕ) where
   pub next_out : (e : Epoch) → next_epoch p pending line ≡ Ok e → Next p pending line e
   unfolding next_epoch on_named
-  next_out e h = let k = and_then_ok (on_named p pending) (read_epoch line) e h in go k.0 k.1 (names_reserved p.rules k.0) refl k.2
-    where
-      go : (named : Epoch) → read_epoch line ≡ Ok named → (b : Bool) → names_reserved p.rules named ≡ b → cond b (Err (refusal Fault.ReservedEvent 0)) (Ok (with_pending pending named)) ≡ Ok e → Next p pending line e
-      go named r true f k = let z : ⊥ = cc in absurd z
-      go named r false f k = let w : with_pending pending named ≡ e = cc in record { named = named; read = r; free = f; whole = w }
+  next_out e h = grind arith
 
   pub next_in : (named : Epoch) → read_epoch line ≡ Ok named → names_reserved p.rules named ≡ false → next_epoch p pending line ≡ Ok (with_pending pending named)
   unfolding next_epoch on_named
-  next_in named r f = rw (r, f) refl
+  next_in named r f = rw (r, f)
 
   pub next_refused : (r : Refusal) → next_epoch p pending line ≡ Err r → NoNext p line r
   unfolding next_epoch on_named
-  next_refused r h = cases (and_then_err (on_named p pending) (read_epoch line) r h)
+  next_refused r h = ⊎_elim no_epoch (λ x. is_reserved x.0 x.1 x.2 x.3) cases
     where
-      go : (named : Epoch) → read_epoch line ≡ Ok named → (b : Bool) → names_reserved p.rules named ≡ b → cond b (Err (refusal Fault.ReservedEvent 0)) (Ok (with_pending pending named)) ≡ Err r → NoNext p line r
-      go named q true f k = let w : r ≡ refusal Fault.ReservedEvent 0 = cc in is_reserved named q f w
-      go named q false f k = let z : ⊥ = cc in absurd z
-
-      cases : (read_epoch line ≡ Err r) ⊎ ((e : Epoch) × (read_epoch line ≡ Ok e) × (on_named p pending e ≡ Err r)) → NoNext p line r
-      cases (inl q) = no_epoch q
-      cases (inr (e, q, k)) = go e q (names_reserved p.rules e) refl k
+      cases : (read_epoch line ≡ Err r) ⊎ ((named : Epoch) × (read_epoch line ≡ Ok named) × (names_reserved p.rules named ≡ true) × (r ≡ refusal Fault.ReservedEvent 0))
+      cases = grind arith
 
 -- its events are those that are named and those that are pending
 pub epoch_events : (p : Policy) (pending : EventSet) (line : List ℕ) (e : Epoch) → next_epoch p pending line ≡ Ok e → (named : Epoch) → read_epoch line ≡ Ok named
     → (x : Event) → has_event e.events x ≡ has_event named.events x || has_event pending x
-epoch_events p pending line e h named r x =
-    let n = next_out p pending line e h in
-    let same : Ok n.named ≡ Ok named = sym n.read ∙ r in
-    let w : n.named ≡ named = cc in
-    ap (λ (y : Epoch). has_event y.events x) (sym n.whole) ∙ has_union n.named.events.bits pending.bits x.0 ∙ ap (λ (y : Epoch). has_event y.events x || has_event pending x) w
+epoch_events p pending line e h named r x = grind (arith, next_out p pending line e h, has_union named.events.bits pending.bits x.0)
 
 -- ---- a line names an event that some rule triggers
 

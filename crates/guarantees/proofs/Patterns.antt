@@ -1,6 +1,5 @@
 -- A constant in hexadecimal digits and the words of an image.
-use Rattle.std.specs.Prelude.{Some}
-use Rattle.std.proofs.Common.{ℕ, ◌<◌, List, [], ◌∷◌, ◌≡◌, sym, ap, ◌∙◌, arith, ℤ, to_z-of_z, w32, of_z, to_z}
+use Rattle.std.proofs.Common.{ℕ, ◌<◌, List, [], ◌∷◌, ◌≡◌, sym, ap, ◌∙◌, arith, ℤ, to_z-of_z, w32, of_z, to_z, Some}
 use Rattle.policy.proofs.ConstantLaws.{reading_value_is}
 use Rattle.policy.specs.declared.comparison.Operand.{Operand}
 use Rattle.lexer.specs.Number.{hex_number, constant_of}

@@ -1,9 +1,8 @@
 -- `compiler | decompiler | compiler`: what the compiler prints for an accepted text, the decompiler turns into a text for which the
 -- compiler prints the same again.
-use Rattle.std.specs.Prelude.{Some, Result}
 use Rattle.std.specs.Result.{result_ok}
 use Rattle.policy.proofs.ResultLaws.{known}
-use Rattle.std.proofs.Common.{ℕ, ◌%◌, List, [], ◌∷◌, ◌++◌, map, ◌≡◌, refl, sym, ap, ◌∙◌, arith, length}
+use Rattle.std.proofs.Common.{ℕ, ◌%◌, List, [], ◌∷◌, map, ◌≡◌, refl, sym, ap, ◌∙◌, arith, length, Some, Result}
 use mathlib.Core.List.{flatten}
 use Rattle.policy.specs.declared.fault.Refusal.{Refusal}
 use Rattle.policy.specs.Limits.{Acceptable}
@@ -33,7 +32,7 @@ texts_policy_acceptable maker site p e = texts_acceptable newest_form maker site
 word_lines_is : (ws : List ℕ) → word_lines ws ≡ flatten (map word_line ws)
 unfolding word_lines flatten
 word_lines_is [] = refl
-word_lines_is (w ∷ ws) = ap (λ (rest : List ℕ). word_line w ++ rest) (word_lines_is ws)
+word_lines_is (w ∷ ws) = cc (word_lines_is ws)
 
 whole_words : (p : Policy) → length (image_of newest_form p) % 4 ≡ 0
 unfolding image_of
@@ -53,10 +52,7 @@ texts_listed_image maker site p = listing_is texts_refusal_line (read_texts newe
 
 restored_words : (p : Policy) → Acceptable newest_form p → restored (word_lines (words_of (image_of newest_form p))) ≡ text_of p
 unfolding image_answer loaded_answer
-restored_words p ok =
-    let image : List ℕ = image_of newest_form p in
-    ap restored (word_lines_is (words_of image)) ∙ restored_image image (image_bytes newest_form p) (whole_words p)
-    ∙ rw (image_taken newest_form newest_known p ok, image_holds newest_form newest_known p ok)
+restored_words p ok = grind (arith, word_lines_is, restored_image, image_bytes, whole_words, image_taken, newest_known, image_holds)
 
 -- for every accepted text the decompiler prints, of what the compiler prints, the text of the text's policy
 pub listing_restored : (text : List ℕ) (p : Policy) → policy_of newest_form text ≡ Some p → restored (listed text) ≡ text_of p

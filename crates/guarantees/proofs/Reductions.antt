@@ -1,20 +1,20 @@
 -- What holds of every decision in the second mode, that of event cancellation. It is what the image's policy yields, the kept events
 -- are a maximal reduction free of conflict, and it is refused for a conflict exactly where there is none.
-use Rattle.std.proofs.Common.{ℕ, ◌<◌, ◌^◌, Bool, true, false, cond, List, ◌↔◌, ⊎_elim, ◌≡◌, refl, sym, ap, ◌∙◌, subst, arith, length, Ok, Err}
+use Rattle.std.proofs.Common.{ℕ, ◌<◌, ◌^◌, true, false, List, ◌↔◌, ⊎_elim, ◌≡◌, refl, sym, ap, ◌∙◌, subst, arith, length, Ok, Err}
 use Rattle.policy.specs.declared.epoch.Epoch.{Epoch}
 use Rattle.policy.specs.Fault.{refusal}
 use Rattle.policy.specs.Limits.{Acceptable}
 use Rattle.policy.specs.Policy.{Policy}
 use Rattle.policy.specs.Epoch.{InAlphabet}
-use Rattle.policy.specs.Set.{EventSet, actions_without}
+use Rattle.policy.specs.Set.{EventSet}
 use Rattle.policy.specs.declared.fault.Fault.{Fault}
 use Rattle.policy.specs.declared.fault.Refusal.{Refusal}
 use Rattle.policy.specs.declared.mode.Mode.{Mode}
 use Rattle.pdl.proofs.Reduction.{unavoidable_exactly, reducible_avoids, kept_maximal, issued_within, issued_satisfies, issued_with_withheld, withheld_apart, giving_back_clashes, dropped_trial, all_kept, nothing_withheld}
-use Rattle.pdl.specs.Answer.{refuses, issues}
+use Rattle.pdl.specs.Answer.{issues}
 use Rattle.pdl.specs.Pdl.{Reducible}
-use Rattle.pdl.specs.Reduction.{proposed_with, kept_events, issued, withheld, kept_triggers, unavoidable}
-use Rattle.pdl.specs.Yield.{proposed, with_pending}
+use Rattle.pdl.specs.Reduction.{proposed_with, kept_events, issued, withheld, unavoidable}
+use Rattle.pdl.specs.Yield.{with_pending}
 use Rattle.acceptance.proofs.Alphabet.{line_inside}
 use Rattle.word.specs.Word.{Bytes, words_of}
 use Rattle.image.specs.Held.{policy_in}
@@ -23,7 +23,7 @@ use Rattle.layout.specs.Layout.{known_form, image_of}
 use Rattle.exactness.specs.Exact.{contents_of}
 use Rattle.meaning.proofs.Decided.{reduction_of, events_decided_are}
 use Rattle.meaning.proofs.Taken.{Implements, written_implements, taken_implements}
-use Rattle.monitor.specs.Decision.{actions_of, tried_event_words, decided_by, decision_in, pending_after, answer_of}
+use Rattle.monitor.specs.Decision.{tried_event_words, decided_by, decision_in, pending_after, answer_of}
 use Rattle.guarantees.proofs.Decisions.{OfEpochAlone, refused_for, refused_cases, either_faults, not_refused}
 use Rattle.guarantees.proofs.NextLaws.{Next, next_out, next_in}
 use Rattle.policy.proofs.SetLaws.{union_limit}
@@ -35,21 +35,10 @@ use Rattle.guarantees.specs.Decisions.{RefusedIn, as_first, for_conflict, OfDeci
 module _ (p : Policy) (e : Epoch) (words : ℕ) where
   answer_is : answer_of (reduction_of p e words) ≡ yield_in Mode.Events p e
   unfolding yield_in withheld
-  answer_is = go (unavoidable p e)
-    where
-      go : (b : Bool)
-          → answer_of (cond b (Err (refusal Fault.Unavoidable 0)) (Ok (actions_of (proposed p.rules e) (issued p e) (kept_triggers p e) words)))
-          ≡ cond b (refuses (refusal Fault.Unavoidable 0)) (issues (issued p e) (actions_without (proposed p.rules e) (issued p e)))
-      go true = refl
-      go false = refl
+  answer_is = grind arith
 
   refuses_out : (r : Refusal) → reduction_of p e words ≡ Err r → (unavoidable p e ≡ true) × (r ≡ refusal Fault.Unavoidable 0)
-  refuses_out r = go (unavoidable p e)
-    where
-      go : (b : Bool) → cond b (Err (refusal Fault.Unavoidable 0)) (Ok (actions_of (proposed p.rules e) (issued p e) (kept_triggers p e) words)) ≡ Err r
-          → (b ≡ true) × (r ≡ refusal Fault.Unavoidable 0)
-      go true h = let w : r ≡ refusal Fault.Unavoidable 0 = cc in (refl, w)
-      go false h = let z : ◌≡◌ {A = ℕ} 0 1 = cc in absurd (omega arith)
+  refuses_out r h = grind arith
 
   refuses_in_is : unavoidable p e ≡ true → reduction_of p e words ≡ Err (refusal Fault.Unavoidable 0)
   refuses_in_is h = rw h
@@ -69,9 +58,7 @@ module _ (image : List ℕ) (contents : Contents) (p : Policy) (does : Implement
     words = tried_event_words contents.parts.rules contents.parts.constraints e
 
     pub decided : decision_in Mode.Events image pending line ≡ reduction_of p e words
-    decided =
-        events_decided_are image contents p does pending line n.named n.read n.free
-        ∙ ap (λ (x : Epoch). reduction_of p x (tried_event_words contents.parts.rules contents.parts.constraints x)) n.whole
+    decided = grind (arith, events_decided_are, n, reduction_of)
 
     -- the decision is what the policy yields
     pub reduces_policy : answer_of (decision_in Mode.Events image pending line) ≡ yield_in Mode.Events p e
@@ -79,10 +66,7 @@ module _ (image : List ℕ) (contents : Contents) (p : Policy) (does : Implement
 
     -- it is refused for a conflict exactly if no reduction of the epoch is free of conflict
     pub conflict_exactly : (decision_in Mode.Events image pending line ≡ Err (refusal Fault.Unavoidable 0)) ↔ ¬ Reducible p.constraints (proposed_with p.rules) e
-    conflict_exactly = (
-      (λ h. (unavoidable_exactly p e).0 (refuses_out p e words (refusal Fault.Unavoidable 0) (sym decided ∙ h)).0),
-      λ h. decided ∙ refuses_in_is p e words ((unavoidable_exactly p e).1 h),
-    )
+    conflict_exactly = grind (arith, unavoidable_exactly, refuses_out, decided, refuses_in_is)
 
     -- otherwise the kept events are a maximal such reduction, and what they propose is issued
     pub obeys_events : pending.bits < 2 ^ 64 → Reducible p.constraints (proposed_with p.rules) e → ObeysEvents p e (kept_events p e) (answer_of (decision_in Mode.Events image pending line))
@@ -117,7 +101,7 @@ refused_exactly mode image pending line bounded r = (λ h. ⊎_elim as_first (ep
     does contents t = taken_implements image bounded contents t
 
     epoch_case : (m : Mode) → decision_in m image pending line ≡ Err r → OfEpochAlone m image bounded pending line r → RefusedIn m image pending line r
-    epoch_case Mode.Actions h a = let d = a.refused in let z : ⊥ = cc in absurd z
+    epoch_case Mode.Actions h a = absurd (cc a.refused)
     epoch_case Mode.Events h a =
         let next = next_in p pending line a.named a.read a.free in
         let w = refuses_out p (with_pending pending a.named) _ r (sym (decided image a.contents p (does a.contents a.taken) pending line _ next) ∙ h) in
@@ -152,16 +136,7 @@ module _ (form : ℕ) (known : known_form form ≡ true) (p : Policy) (ok : Acce
   -- the events are pending that the kept ones trigger, and those before where the epoch is refused
   pub written_events_trigger : pending_after pending (decision_in Mode.Events image pending line) ≡ set_after pending Mode.Events p (Ok e)
   unfolding pending_after set_after yield_in triggered_in
-  written_events_trigger = ap (pending_after pending) (decided image (contents_of form p) p written pending line e next) ∙ go (unavoidable p e)
-    where
-      words : ℕ
-      words = tried_event_words (contents_of form p).parts.rules (contents_of form p).parts.constraints e
-
-      go : (b : Bool)
-          → pending_after pending (cond b (Err (refusal Fault.Unavoidable 0)) (Ok (actions_of (proposed p.rules e) (issued p e) (kept_triggers p e) words)))
-          ≡ cond (cond b (refuses (refusal Fault.Unavoidable 0)) (issues (issued p e) (withheld p e))).is_refused pending (kept_triggers p e)
-      go true = refl
-      go false = refl
+  written_events_trigger = grind (arith, decided image (contents_of form p) p written pending line e next)
 
   pub written_conflict : (decision_in Mode.Events image pending line ≡ Err (refusal Fault.Unavoidable 0)) ↔ ¬ Reducible p.constraints (proposed_with p.rules) e
   written_conflict = conflict_exactly image (contents_of form p) p written pending line e next

@@ -1,7 +1,5 @@
 -- The text that is written from an image compiles to that image, and tells the policies apart.
-use Rattle.std.specs.Prelude.{Ok, Option, Some}
-use Rattle.std.proofs.Common.{ℕ, ◌≤◌, true, List, ◌++◌, ◌↔◌, ◌≡◌, sym, ap, ◌∙◌, arith, length, drop}
-use Rattle.policy.specs.Fill.{Filled, deliver}
+use Rattle.std.proofs.Common.{ℕ, ◌≤◌, true, List, ◌++◌, ◌↔◌, ◌≡◌, refl, sym, ap, ◌∙◌, arith, length, drop, Ok, Option, Some}
 use Rattle.policy.specs.Limits.{Acceptable}
 use Rattle.policy.specs.Policy.{Policy}
 use Rattle.rule_text.specs.Text.{policy_of, policy_of_texts}
@@ -45,10 +43,7 @@ text_recompiles image text bounded d buffer room =
     let t = text_of_image image text bounded d in
     let p : Policy = policy_in image in
     let form : ℕ = form_byte (words_of image) in
-    let e : compiled form (text_of p) buffer ≡ deliver (image_of form p) buffer =
-    text_delivered form (text_of p) buffer t.form_known p (text_read_is form p t.acceptable) (rw t.again room) in
-    let k : compiled form text buffer ≡ deliver image buffer = rw t.same (e ∙ ap (λ (i : List ℕ). deliver i buffer) t.again) in
-    (ap (λ (o : Filled). o.answer) k, ap (λ (o : Filled). o.buffer) k)
+    rw (t.same, text_delivered form (text_of p) buffer t.form_known p (text_read_is form p t.acceptable) (rw t.again room), t.again) (refl, refl)
 
 -- the written text of the image of what has this policy is that policy's
 record TextOf (known : Option Policy) (written : List ℕ) : Type 0 where
@@ -69,16 +64,7 @@ text_of_known form known image written i d =
     record { policy = i.policy; read = i.read; form = form; acceptable = i.acceptable; same = (text_of_image image written bounded d).same ∙ ap text_of holds }
 
 same_restored : (known known' : Option Policy) (u v : List ℕ) → TextOf known u → TextOf known' v → (u ≡ v) ↔ (known ≡ known')
-same_restored known known' u v a b = (there, back)
-  where
-    there : u ≡ v → known ≡ known'
-    there e = a.read ∙ ap Some (text_injective a.form b.form a.policy b.policy a.acceptable b.acceptable (sym a.same ∙ e ∙ b.same)) ∙ sym b.read
-
-    back : known ≡ known' → u ≡ v
-    back e =
-        let q : Some a.policy ≡ Some b.policy = sym a.read ∙ e ∙ b.read in
-        let p : a.policy ≡ b.policy = cc in
-        a.same ∙ ap text_of p ∙ sym b.same
+same_restored known known' u v a b = grind (arith, text_injective)
 
 -- two accepted texts give equal written texts exactly if they have the same rules in the same order and the same constraints in
 -- theirs, in whichever forms they were compiled

@@ -1,8 +1,6 @@
 -- What is shown of a line: it stands in its text, without line end and trimmed of spaces at both ends.
-use Rattle.std.specs.Prelude.{Some, None, Ok}
-use Rattle.std.proofs.Common.{ℕ, suc, ◌+◌, ◌≤◌, Bool, true, false, cond, List, [], ◌∷◌, ◌++◌, Contains, append_assoc, ⊎_elim, ◌≡◌, refl, sym, ap, ◌∙◌, arith, eqb-true, eq-eqb, length, take, drop, length-append, length-drop, take-append-drop, drop-drop, length-take-le}
+use Rattle.std.proofs.Common.{ℕ, suc, ◌+◌, ◌≤◌, Bool, true, false, cond, List, [], ◌∷◌, ◌++◌, Contains, append_assoc, ⊎_elim, ◌≡◌, refl, sym, ap, ◌∙◌, arith, eqb-true, eq-eqb, length, take, drop, length-append, length-drop, take-append-drop, drop-drop, length-take-le, Some, None, Ok, eqb}
 use Rattle.std.proofs.lemmas.Bool.{eqb-false}
-use Rattle.std.proofs.Math.Dec.{eqb}
 use Rattle.std.proofs.Math.Seq.{drop-append_seam, drop-append-add}
 use Rattle.std.proofs.lemmas.List.Elements.{Contains-append_left, Contains-append_right, Contains-append_cases}
 use Rattle.policy.proofs.ListLaws.{contains_cases, contains_first, contains_later, contains_one, all_out}
@@ -25,34 +23,31 @@ pub record Ended (s t : List ℕ) : Type 0 where
   pub last : (rest : List ℕ) (b : ℕ) → t ≡ rest ++ b ∷ [] → ¬ (b ≡ 32)
 
 no_last : (rest : List ℕ) (b : ℕ) → [] ≡ rest ++ b ∷ [] → ⊥
-no_last [] b e = let w : ◌≡◌ {A = ℕ} 0 1 = cc in omega arith
-no_last (c ∷ rest) b e = let w : ◌≡◌ {A = ℕ} 0 1 = cc in omega arith
+no_last [] b e = cc
+no_last (c ∷ rest) b e = cc
 
 one_last : (c : ℕ) (rest : List ℕ) (b : ℕ) → c ∷ [] ≡ rest ++ b ∷ [] → c ≡ b
 one_last c [] b e = cc
-one_last c (d ∷ rest) b e = let k : [] ≡ rest ++ b ∷ [] = cc in absurd (no_last rest b k)
+one_last c (d ∷ rest) b e = absurd (no_last rest b cc)
 
 more_last : (c d : ℕ) (t rest : List ℕ) (b : ℕ) → ((rest : List ℕ) (b : ℕ) → d ∷ t ≡ rest ++ b ∷ [] → ¬ (b ≡ 32)) → c ∷ d ∷ t ≡ rest ++ b ∷ [] → ¬ (b ≡ 32)
-more_last c d t [] b h e = let w : ◌≡◌ {A = ℕ} 0 1 = cc in absurd (omega arith)
-more_last c d t (x ∷ rest) b h e = let k : d ∷ t ≡ rest ++ b ∷ [] = cc in h rest b k
+more_last c d t [] b h e = absurd cc
+more_last c d t (x ∷ rest) b h e = h rest b cc
 
 kept : (c : ℕ) (s t : List ℕ) → Ended s t → Ended (c ∷ s) (add_to_trimmed c t)
 unfolding add_to_trimmed
 kept c s [] r = go (is_space c) refl
   where
-    spaces : c ≡ 32 → Spaces (c ∷ s)
-    spaces h b m = ⊎_elim (λ q. sym q ∙ h) (λ k. r.spaces b (rw r.whole at k)) (contains_cases c s b m)
-
     go : (x : Bool) → is_space c ≡ x → Ended (c ∷ s) (cond x [] (c ∷ []))
-    go true h = record { behind = c ∷ s; whole = refl; spaces = spaces (eqb-true c 32 h); last = λ rest b e. absurd (no_last rest b e) }
-    go false h =
+    go true h =
         record {
-          behind = r.behind;
-          whole = ap (λ (t : List ℕ). c ∷ t) r.whole;
-          spaces = r.spaces;
-          last = λ rest b e k. eqb-false c 32 h (one_last c rest b e ∙ k);
+          behind = c ∷ s;
+          whole = refl;
+          spaces = λ b m. ⊎_elim (λ q. sym q ∙ eqb-true c 32 h) (λ k. r.spaces b (rw r.whole at k)) (contains_cases c s b m);
+          last = λ rest b e. absurd (no_last rest b e);
         }
-kept c s (d ∷ t) r = record { behind = r.behind; whole = ap (λ (t : List ℕ). c ∷ t) r.whole; spaces = r.spaces; last = λ rest b. more_last c d t rest b r.last }
+    go false h = record { behind = r.behind; whole = cc r.whole; spaces = r.spaces; last = λ rest b e k. eqb-false c 32 h (one_last c rest b e ∙ k) }
+kept c s (d ∷ t) r = record { behind = r.behind; whole = cc r.whole; spaces = r.spaces; last = λ rest b. more_last c d t rest b r.last }
 
 pub ended : (s : List ℕ) → Ended s (trim_end s)
 unfolding trim_end
@@ -61,10 +56,7 @@ ended (c ∷ s) = kept c s (trim_end s) (ended s)
 
 -- a byte of which nothing is taken in front is no space
 pub stops : (b : ℕ) (s : List ℕ) → [] ≡ take_leading is_space (b ∷ s) → is_space b ≡ false
-stops b s = elim (is_space b) as (λ x. [] ≡ cond x (b ∷ take_leading is_space s) [] → x ≡ false) [
-  | true ↦ λ e. let w : ◌≡◌ {A = ℕ} 0 1 = cc in absurd (omega arith)
-  | false ↦ λ e. refl
-]
+stops b s e = grind arith
 
 unfoldable pub trimming : (line : List ℕ) → Trimmed line (trim line)
 unfolding trim trim_start
@@ -109,50 +101,25 @@ record Cut (s line : List ℕ) (lines : List (List ℕ)) : Type 0 where
 no_pieces : (s : List ℕ) → pieces 10 s ≡ [] → s ≡ []
 unfolding pieces prepend
 no_pieces [] e = refl
-no_pieces (b ∷ s) e = go (eqb b 10) (pieces 10 s) e
-  where
-    go : (x : Bool) (ls : List (List ℕ)) → cond x ([] ∷ ls) (prepend b ls) ≡ [] → b ∷ s ≡ []
-    go true ls h = let w : ◌≡◌ {A = ℕ} 0 1 = cc in absurd (omega arith)
-    go false [] h = let w : ◌≡◌ {A = ℕ} 0 1 = cc in absurd (omega arith)
-    go false (l ∷ ls) h = let w : ◌≡◌ {A = ℕ} 0 1 = cc in absurd (omega arith)
+no_pieces (b ∷ s) e = grind arith
 
 abbrev Cutting : List ℕ → Type 0
 Cutting s = (line : List ℕ) (lines : List (List ℕ)) → pieces 10 s ≡ line ∷ lines → Cut s line lines
 
 cut : (s : List ℕ) → Cutting s
 unfolding pieces prepend
-cut [] line lines e = let w : ◌≡◌ {A = ℕ} 0 1 = cc in absurd (omega arith)
+cut [] line lines e = absurd cc
 cut (b ∷ s) line lines e = go (eqb b 10) refl (pieces 10 s) refl (cut s) e
   where
     go : (x : Bool) → eqb b 10 ≡ x → (ls : List (List ℕ)) → pieces 10 s ≡ ls → Cutting s → cond x ([] ∷ ls) (prepend b ls) ≡ line ∷ lines → Cut (b ∷ s) line lines
-    go true q ls k c h =
-        let i : [] ≡ line = cc in
-        let j : ls ≡ lines = cc in
-        record {
-          rest = b ∷ s;
-          whole = ap (λ (t : List ℕ). t ++ b ∷ s) i;
-          later = sym j ∙ sym k;
-          no_end = λ m. omega (arith, m.1, ap length i);
-        }
+    go true q ls k c h = record { rest = b ∷ s; whole = cc; later = cc; no_end = λ m. grind (arith, m.1) }
     go false q [] k c h =
         let i : b ∷ [] ≡ line = cc in
-        let j : [] ≡ lines = cc in
-        record {
-          rest = [];
-          whole = ap (λ (t : List ℕ). b ∷ t) (no_pieces s k) ∙ ap (λ (t : List ℕ). t ++ []) i;
-          later = sym j;
-          no_end = λ m. eqb-false b 10 q (contains_one b 10 (rw (← i) at m));
-        }
+        record { rest = []; whole = cc (no_pieces s k); later = cc; no_end = λ m. eqb-false b 10 q (contains_one b 10 (rw (← i) at m)) }
     go false q (p ∷ ps) k c h =
         let i : b ∷ p ≡ line = cc in
-        let j : ps ≡ lines = cc in
         let r = c p ps k in
-        record {
-          rest = r.rest;
-          whole = ap (λ (t : List ℕ). b ∷ t) r.whole ∙ ap (λ (t : List ℕ). t ++ r.rest) i;
-          later = sym j ∙ r.later;
-          no_end = λ m. ⊎_elim (eqb-false b 10 q) r.no_end (contains_cases b p 10 (rw (← i) at m));
-        }
+        record { rest = r.rest; whole = cc (i, r.whole); later = cc r.later; no_end = λ m. ⊎_elim (eqb-false b 10 q) r.no_end (contains_cases b p 10 (rw (← i) at m)) }
 
 -- the line that starts at a position
 pub record LineAt (text : List ℕ) (at : ℕ) (line : List ℕ) : Type 0 where
@@ -175,7 +142,7 @@ line_at (l ∷ before) text line behind e = go (cut text l (before ++ line ∷ b
             absurd (omega (arith, ap length z, length-append before (line ∷ behind)))
         behind_it (b ∷ t) k =
             let r = later t (sym (c.later ∙ ap (λ (s : List ℕ). pieces 10 (drop 1 s)) k)) in
-            let same : text ≡ l ++ b ∷ t = c.whole ∙ ap (λ (s : List ℕ). l ++ s) k in
+            let same : text ≡ l ++ b ∷ t = cc c.whole in
             let n : length l + 1 + ended_length before ≡ length l + suc (ended_length before) = omega arith in
             record {
               rest = r.rest;

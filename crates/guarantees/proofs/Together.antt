@@ -1,9 +1,6 @@
 -- What is decided by the function that compiles and decides.
-use Rattle.policy.specs.Fault.{refusal}
-use Rattle.policy.specs.declared.fault.Fault.{Fault}
 use Rattle.policy.specs.declared.fault.Refusal.{Refusal}
-use Rattle.std.specs.Prelude.{Ok, Err}
-use Rattle.std.proofs.Common.{ℕ, Bool, true, false, refl, List, ◌≡◌, sym, ap, ◌∙◌, length, take, Result}
+use Rattle.std.proofs.Common.{arith, ℕ, List, ◌≡◌, sym, ap, ◌∙◌, length, take, Result, Ok, Err}
 use Rattle.acceptance.proofs.Accepted.{texts_acceptable}
 use Rattle.codegen.proofs.Compilation.{texts_form_refused, texts_written}
 use Rattle.codegen.specs.Compile.{in_form, compiled_texts}
@@ -14,7 +11,7 @@ use Rattle.monitor.specs.declared.decision.Actions.{Actions}
 use Rattle.guarantees.specs.Together.{decided_lines, DecidedBy}
 use Rattle.guarantees.specs.declared.Told.{Told}
 use Rattle.guarantees.proofs.LineLaws.{decided_agree}
-use Rattle.layout.specs.Layout.{known_form, size_limit}
+use Rattle.layout.specs.Layout.{size_limit}
 
 module _ (form : ℕ) (maker site buffer written : List ℕ) (size : ℕ) (made : Ok size ≡ (compiled_texts form maker site buffer).answer)
     (wrote : written ≡ (compiled_texts form maker site buffer).buffer) (long : length buffer ≡ size_limit) where
@@ -28,11 +25,4 @@ module _ (form : ℕ) (maker site buffer written : List ℕ) (size : ℕ) (made 
 -- a compilation for which there is room is refused for the form or for the texts
 module _ (form : ℕ) (maker site buffer : List ℕ) (long : length buffer ≡ size_limit) where
   pub together_refused : (r : Refusal) → (compiled_texts form maker site buffer).answer ≡ Err r → in_form form (read_texts form maker site) ≡ Err r
-  together_refused r e = go (known_form form) refl
-    where
-      go : (b : Bool) → known_form form ≡ b → in_form form (read_texts form maker site) ≡ Err r
-      go true k = rw k (texts_refusal form k maker site buffer long r e)
-      go false k =
-          let q = sym (ap (λ f. f.answer) (texts_form_refused form maker site buffer k)) ∙ e in
-          let w : refusal Fault.ImageForm 0 ≡ r = cc in
-          rw k (ap Err w)
+  together_refused r e = grind (arith, texts_refusal, texts_form_refused)

@@ -3,7 +3,7 @@ use Rattle.policy.specs.declared.fault.Refusal.{Refusal}
 use Rattle.std.proofs.Common.{ℕ, ◌+◌, ◌*◌, ◌≤◌, Bool, true, false, cond, List, ◌≡◌, refl, sym, ap, ◌∙◌, mul-le-mul_right, arith, length, Result, Ok, Err}
 use Rattle.policy.specs.declared.epoch.Epoch.{Epoch}
 use Rattle.policy.specs.Fault.{refusal}
-use Rattle.policy.specs.Set.{ActionSet, EventSet, size, all_events, keeping, set_of}
+use Rattle.policy.specs.Set.{ActionSet, EventSet, size, all_events}
 use Rattle.policy.specs.declared.effect.Effects.{Effects}
 use Rattle.pdl.specs.Reduction.{issued, kept_triggers, unavoidable}
 use Rattle.pdl.specs.Yield.{proposed}
@@ -21,8 +21,7 @@ use Rattle.meaning.proofs.Fetched.{taken_rules_fetch, taken_trial_fetch}
 use Rattle.meaning.proofs.Taken.{Implements, taken_rules_run, taken_implements}
 use Rattle.exactness.proofs.ImageLaws.{rules_size, constraints_size}
 use Rattle.image.proofs.HeldLaws.{counted}
-use Rattle.monitor.specs.Decision.{actions_of, visited_by, proposed_by, conflict_by, trial_words, tried_words, proposed_with_by, clash_by, clash_words, tried_event_words, yielded_by, decided_by, on_image, decision_in, decision, answer_of, visited_in}
-use Rattle.monitor.specs.declared.decision.Actions.{Actions}
+use Rattle.monitor.specs.Decision.{actions_of, visited_by, proposed_by, tried_words, clash_by, clash_words, tried_event_words, yielded_by, decided_by, on_image, decision_in, decision, answer_of, visited_in}
 use Rattle.guarantees.specs.Decisions.{decided_actions}
 use Rattle.guarantees.proofs.Decisions.{does_refuse, decided_yields, holds_policy}
 use Rattle.guarantees.proofs.Reductions.{decided}
@@ -30,11 +29,7 @@ use Rattle.guarantees.specs.Machine.{next_epoch}
 
 -- a refused decision reports 0, in either mode
 pub refused_fetches_none : (mode : Mode) (image : List ℕ) (pending : EventSet) (line : List ℕ) → (answer_of (decision_in mode image pending line)).is_refused ≡ true → visited_in (decision_in mode image pending line) ≡ 0
-refused_fetches_none mode image pending line = go (decision_in mode image pending line)
-  where
-    go : (d : Result Actions Refusal) → (answer_of d).is_refused ≡ true → visited_in d ≡ 0
-    go (Err r) h = refl
-    go (Ok actions) h = let z : ◌≡◌ {A = ℕ} 0 1 = cc in absurd (omega arith)
+refused_fetches_none mode image pending line h = grind arith
 
 module _ (image : List ℕ) (bounded : Bytes image) (contents : Contents) (taken : load image ≡ Ok contents) where
   abbrev P : ℕ
@@ -46,13 +41,7 @@ module _ (image : List ℕ) (bounded : Bytes image) (contents : Contents) (taken
   module _ (e : Epoch) where
     issued_words : visited_by contents.parts.rules contents.parts.constraints e ≤ P + size (proposed_by contents.parts.rules e).bits * N
     unfolding tried_words
-    issued_words =
-        omega (
-          arith,
-          taken_rules_fetch image bounded contents taken e.readings (all_events e.events),
-          trials_cost_is (conflict_by contents.parts.constraints e.readings) (trial_words contents.parts.constraints e.readings) (proposed_by contents.parts.rules e).bits N
-              (λ s. taken_trial_fetch image bounded contents taken e.readings (set_of s)),
-        )
+    issued_words = grind (arith, taken_rules_fetch, trials_cost_is, taken_trial_fetch)
 
   module _ (pending : EventSet) (line : List ℕ) where
     -- at most the rule words, and the constraint words once for each action that was accepted or cancelled
@@ -74,19 +63,13 @@ module _ (image : List ℕ) (bounded : Bytes image) (contents : Contents) (taken
 
     -- so it is at most P + 64 × N
     pub words_bounded : visited_in (decision image pending line) ≤ P + 64 * N
-    words_bounded =
-        omega (arith, words_by_actions, mul-le-mul_right N (size_limit_is (decided_actions (answer_of (decision image pending line))).bits))
+    words_bounded = grind (arith, words_by_actions, mul-le-mul_right, size_limit_is)
 
     -- ---- the second mode
 
     -- a trial fetches at most the rule words and the constraint words
     trial_words_is : (e : Epoch) (kept : ℕ) → clash_words contents.parts.rules contents.parts.constraints e kept ≤ P + N
-    trial_words_is e kept =
-        omega (
-          arith,
-          taken_rules_fetch image bounded contents taken e.readings (keeping e.events (set_of kept)),
-          taken_trial_fetch image bounded contents taken e.readings (proposed_with_by contents.parts.rules e (set_of kept)),
-        )
+    trial_words_is e kept = grind (arith, taken_rules_fetch, taken_trial_fetch)
 
     -- one trial with no event, and one for each event of the epoch
     pub words_by_events : (e : Epoch) → next_epoch (policy_in image) pending line ≡ Ok e → visited_in (decision_in Mode.Events image pending line) ≤ (P + N) + size e.events.bits * (P + N)

@@ -30,26 +30,31 @@ ghost use Rattle.image.specs.Load.{load, Contents};
 /// For every form and text, the bytes that the compiler wrote for it and every list of epoch lines with the mode of each, refused ones included: the list of
 /// decisions on those bytes, the first where no event is pending and each other where those are that the one before it left, is that of the
 /// reference machine, which sees the text and no image.
+#[tactic(auto, using(crate::proofs::Agreement::decisions_agree))]
 pub fn decisions_agree()
     ensures { (form : ℕ) (text image : List ℕ) → CompilesTo form text image → (lines : List ToldLine) → Some (answers image lines) ≡ machine form text lines }
 {}
 
 /// The same for the maker's and the site's text as one.
+#[tactic(auto, using(crate::proofs::Agreement::texts_decisions_agree))]
 pub fn texts_decisions_agree()
     ensures { (form : ℕ) (maker site image : List ℕ) → TextsCompileTo form maker site image → (lines : List ToldLine) → Some (answers image lines) ≡ machine_of_texts form maker site lines }
 {}
 
 /// Behind every such list, the events that are pending are exactly the set that the machine keeps.
+#[tactic(auto, using(crate::proofs::Agreement::pending_agrees))]
 pub fn pending_agrees()
     ensures { (form : ℕ) (text image : List ℕ) → CompilesTo form text image → (lines : List ToldLine) → Some (pending_behind image lines) ≡ machine_set form text lines }
 {}
 
 /// The same for the maker's and the site's text as one.
+#[tactic(auto, using(crate::proofs::Agreement::texts_pending_agrees))]
 pub fn texts_pending_agrees()
     ensures { (form : ℕ) (maker site image : List ℕ) → TextsCompileTo form maker site image → (lines : List ToldLine) → Some (pending_behind image lines) ≡ machine_set_of_texts form maker site lines }
 {}
 
 /// A refused decision leaves the pending events as they were.
+#[tactic(auto, using(crate::proofs::Agreement::refused_leaves_pending))]
 pub fn refused_leaves_pending()
     ensures { (mode : Mode) (image : List ℕ) (pending : EventSet) (line : List ℕ) (r : Refusal) → decision_in mode image pending line ≡ Err r → (advanced mode image pending line).pending ≡ pending }
 {}
@@ -61,12 +66,14 @@ pub fn pending_triggered()
 {}
 
 /// Exactly the events that its line names and those that are pending occur in an epoch.
+#[tactic(auto, using(crate::proofs::NextLaws::epoch_events))]
 pub fn epoch_events()
     ensures { (p : Policy) (pending : EventSet) (line : List ℕ) (e : Epoch) → next_epoch p pending line ≡ Ok e → (named : Epoch) → read_epoch line ≡ Ok named → (x : Event) → has_event e.events x ≡ has_event named.events x || has_event pending x }
 {}
 
 /// A decision is refused under 18 exactly where the image is taken, the line is an epoch line, and it names an event that some rule triggers of the
 /// policy that the image holds. A pending event is no fault.
+#[tactic(auto, using(crate::proofs::Decisions::reserved_refused))]
 pub fn reserved_refused()
     ensures { (mode : Mode) (image : List ℕ) (pending : EventSet) (line : List ℕ) → Bytes image → (decision_in mode image pending line ≡ Err (refusal Fault.ReservedEvent 0)) ↔ NamesTriggered image line }
 {}
@@ -115,11 +122,13 @@ pub fn refused_exactly()
 
 /// A decision is refused under 7 to 10 at the place 0, under 11 at the place of a word, under 1, 12 to 14 or 18 at the place 0 or, by events, under 17 at the place 0,
 /// and it names no text.
+#[tactic(auto, using(crate::proofs::Reductions::decision_faults))]
 pub fn decision_faults()
     ensures { (mode : Mode) (image : List ℕ) (pending : EventSet) (line : List ℕ) → Bytes image → (r : Refusal) → decision_in mode image pending line ≡ Err r → OfDecisionIn mode (length (words_of image)) r }
 {}
 
 /// A refused decision has empty sets.
+#[tactic(auto, using(crate::proofs::Decisions::refused_empty))]
 pub fn refused_empty()
     ensures { (mode : Mode) (image : List ℕ) (pending : EventSet) (line : List ℕ) → (answer_of (decision_in mode image pending line)).is_refused ≡ true → ((answer_of (decision_in mode image pending line)).accepted ≡ no_actions) × ((answer_of (decision_in mode image pending line)).cancelled ≡ no_actions) }
 {}
@@ -130,6 +139,7 @@ pub fn decision_obeys()
 {}
 
 /// What a policy asks of a decision by actions is met by one answer alone.
+#[tactic(auto, using(crate::proofs::Determined::answer_determined))]
 pub fn answer_determined()
     ensures { (p : Policy) (e : Epoch) (a b : Answer) → Obeys p e a → Obeys p e b → a ≡ b }
 {}
@@ -152,6 +162,7 @@ pub fn events_decision_obeys()
 {}
 
 /// What a policy asks of a decision by events is met by one set of kept events and one answer alone.
+#[tactic(auto, using(crate::proofs::Determined::events_answer_determined))]
 pub fn events_answer_determined()
     ensures { (p : Policy) (e : Epoch) (kept kept' : EventSet) (a b : Answer) → ObeysEvents p e kept a → ObeysEvents p e kept' b → (kept ≡ kept') × (a ≡ b) }
 {}
@@ -167,26 +178,31 @@ pub fn lone_constraint_cancels()
 {}
 
 /// A decision by actions fetches at most P + 64 x N words, P and N the words of the rules and of the constraints.
+#[tactic(auto, using(crate::proofs::Words::words_bounded))]
 pub fn words_bounded()
     ensures { (image : List ℕ) → Bytes image → (contents : Contents) → load image ≡ Ok contents → (pending : EventSet) (line : List ℕ) → visited_in (decision image pending line) ≤ length contents.parts.rules + 64 * length contents.parts.constraints }
 {}
 
 /// A decision by events fetches at most 65 x (P + N) words.
+#[tactic(auto, using(crate::proofs::Words::events_words_bounded))]
 pub fn events_words_bounded()
     ensures { (image : List ℕ) → Bytes image → (contents : Contents) → load image ≡ Ok contents → (pending : EventSet) (line : List ℕ) → visited_in (decision_in Mode.Events image pending line) ≤ 65 * (length contents.parts.rules + length contents.parts.constraints) }
 {}
 
 /// Whatever the bytes and the line, a decision by actions fetches at most 71,808 words.
+#[tactic(auto, using(crate::proofs::Words::words_limit))]
 pub fn words_limit()
     ensures { (image : List ℕ) (pending : EventSet) (line : List ℕ) → Bytes image → visited_in (decision image pending line) ≤ 71808 }
 {}
 
 /// And one by events at most 212,160.
+#[tactic(auto, using(crate::proofs::Words::events_words_limit))]
 pub fn events_words_limit()
     ensures { (image : List ℕ) (pending : EventSet) (line : List ℕ) → Bytes image → visited_in (decision_in Mode.Events image pending line) ≤ 212160 }
 {}
 
 /// A refused decision reports 0 words.
+#[tactic(auto, using(crate::proofs::Words::refused_fetches_none))]
 pub fn refused_fetches_none()
     ensures { (mode : Mode) (image : List ℕ) (pending : EventSet) (line : List ℕ) → (answer_of (decision_in mode image pending line)).is_refused ≡ true → visited_in (decision_in mode image pending line) ≡ 0 }
 {}

@@ -43,11 +43,13 @@ pub fn cancelled_shown()
 {}
 
 /// What is shown stands in the text that it is from, within a line and with no space at either end.
+#[tactic(auto, using(crate::proofs::Explanations::shown_straight))]
 pub fn shown_straight()
     ensures { (maker site : List ℕ) (pending : EventSet) (line : List ℕ) (n : ℕ) (why : Explanation) (shown : Quote) → explained maker site pending line n ≡ Ok why → quoted why ≡ Some shown → QuotedStraight maker site shown }
 {}
 
 /// Where the site's text is empty, what is shown is the maker's.
+#[tactic(auto, using(crate::proofs::Explanations::alone_shown))]
 pub fn alone_shown()
     ensures { (maker : List ℕ) (pending : EventSet) (line : List ℕ) (n : ℕ) (why : Explanation) (shown : Quote) → explained maker [] pending line n ≡ Ok why → quoted why ≡ Some shown → (x : Stretch) × (shown ≡ of_maker x) }
 {}

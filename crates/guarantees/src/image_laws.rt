@@ -22,6 +22,7 @@ pub fn taken_exactly()
 {}
 
 /// Fault 16 is given exactly where the checks 7 to 10 pass and the weighted sum is wrong.
+#[tactic(auto, using(exactness::proofs::Exact::weights_exactly))]
 pub fn weights_exactly()
     ensures { (bytes : List ℕ) → (load bytes ≡ Err (refusal Fault.ImageWeightedSum 0)) ↔ (Checked bytes × (weights_right (words_of bytes) ≡ false)) }
 {}
@@ -42,6 +43,7 @@ pub fn image_written()
 {}
 
 /// In each form two texts give the same image exactly if they have the same rules in the same order and the same constraints in theirs.
+#[tactic(auto, using(codegen::proofs::Compilation::same_images))]
 pub fn same_images()
     ensures { (form : ℕ) (s t out out' : List ℕ) (m n : ℕ) → (compiled form s out).answer ≡ Ok m → (compiled form t out').answer ≡ Ok n → (written_in form m s out ≡ written_in form n t out') ↔ (policy_of form s ≡ policy_of form t) }
 {}
@@ -52,16 +54,19 @@ pub fn texts_written()
 {}
 
 /// Two pairs of texts give the same image exactly if each pair as one has the same rules in the same order and the same constraints in theirs.
+#[tactic(auto, using(codegen::proofs::Compilation::pairs_same_images))]
 pub fn pairs_same_images()
     ensures { (form : ℕ) (maker site maker' site' out out' : List ℕ) (m n : ℕ) → (compiled_texts form maker site out).answer ≡ Ok m → (compiled_texts form maker' site' out').answer ≡ Ok n → (written_by m (compiled_texts form maker site out) ≡ written_by n (compiled_texts form maker' site' out')) ↔ (policy_of_texts form maker site ≡ policy_of_texts form maker' site') }
 {}
 
 /// Compiling the text of what was loaded to the form that the loader answers yields the bytes that were loaded.
+#[tactic(auto, using(crate::proofs::Exactness::loaded_compiles))]
 pub fn loaded_compiles()
     ensures { (bytes : List ℕ) → Bytes bytes → (contents : Contents) → load bytes ≡ Ok contents → CompilesTo contents.form (text_of (policy_in bytes)) bytes }
 {}
 
 /// Compiling the text that was written from an image to the image's form yields the image, byte for byte, in any buffer that has room.
+#[tactic(auto, using(crate::proofs::RoundTrip::text_recompiles))]
 pub fn text_recompiles()
     ensures { (image text : List ℕ) → Bytes image → DecompilesTo image text → (buffer : List ℕ) → length image ≤ length buffer → ((compiled (form_byte (words_of image)) text buffer).answer ≡ Ok (length image)) × ((compiled (form_byte (words_of image)) text buffer).buffer ≡ image ++ drop (length image) buffer) }
 {}

@@ -17,11 +17,13 @@ ghost use Rattle.exactness.specs.ImageFault.{ImageFault, NoLineAt};
 ghost use Rattle.guarantees.specs.Claims.{SomeText};
 
 /// Bytes are refused as an image exactly for the first of the faults 7 to 11 that they have, at its location.
+#[tactic(auto, using(exactness::proofs::Exact::image_refused_exactly))]
 pub fn image_refused_exactly()
     ensures { (bytes : List ℕ) (refusal : Refusal) → (load bytes ≡ Err refusal) ↔ ImageFault bytes refusal }
 {}
 
 /// No bytes have two such faults, or one at two locations.
+#[tactic(auto, using(exactness::proofs::Exact::one_image_fault))]
 pub fn one_image_fault()
     ensures { (bytes : List ℕ) (one other : Refusal) → ImageFault bytes one → ImageFault bytes other → one ≡ other }
 {}
@@ -37,6 +39,7 @@ pub fn line_found_exactly()
 {}
 
 /// At most one line of a part stands at the start of words.
+#[tactic(auto, using(decode::proofs::DecodeLaws::one_line_stands))]
 pub fn one_line_stands()
     ensures { (form : ℕ) (part : Part) (words : List ℕ) (one other : PolicyLine) → Stands form part words one → Stands form part words other → one ≡ other }
 {}
@@ -52,11 +55,13 @@ pub fn part_fault_exactly()
 {}
 
 /// Going over words, where a line of either part stands it comes first, and then what comes from behind its words on.
+#[tactic(auto, using(image::proofs::GivenLaws::standing_given))]
 pub fn standing_given()
     ensures { (form : ℕ) (part : Part) (words : List ℕ) (at : ℕ) (line : PolicyLine) → Stands form part (drop at words) line → lines_left words at ≡ line ∷ lines_left words (at + length (line_words line)) }
 {}
 
 /// Going over the words of a part of an image that the loader takes, exactly the lines of that part of the policy that it holds come, in order.
+#[tactic(auto, using(image::proofs::HeldLaws::held_given))]
 pub fn held_given()
     ensures { (bytes : List ℕ) (contents : Contents) → load bytes ≡ Ok contents → (part : Part) → lines_behind 0 (part_get contents.parts part) ≡ lines_held bytes part }
 {}

@@ -22,11 +22,13 @@ pub fn maximal_cancellation()
 {}
 
 /// Giving back one or more cancelled actions makes a constraint hold.
+#[tactic(auto, using(pdl::proofs::Monitor::giving_back_violates))]
 pub fn giving_back_violates()
     ensures { (p : Policy) (e : Epoch) (u : ActionSet) → Yield.accepted p e ⊆ u → u ⊆ proposed p.rules e → ¬ (u ≡ Yield.accepted p e) → Violated p.constraints e.readings u }
 {}
 
 /// Of any other set of proposed actions on which no constraint holds, the lowest action in which it differs from the accepted set is in the accepted set.
+#[tactic(auto, using(pdl::proofs::BestLaws::accepted_best))]
 pub fn accepted_best()
     ensures { (p : Policy) (e : Epoch) (u : ActionSet) → u ⊆ proposed p.rules e → Satisfies p.constraints e.readings u → (a : Action) → LowestDifference (Yield.accepted p e) u a → has_action (Yield.accepted p e) a ≡ true }
 {}
@@ -37,26 +39,31 @@ pub fn accepted_only_best()
 {}
 
 /// What is issued by events is a maximal event cancellation of what is proposed.
+#[tactic(auto, using(pdl::proofs::Reduction::maximal_event_cancellation))]
 pub fn maximal_event_cancellation()
     ensures { (p : Policy) → MaximalEventCancellation p.constraints (proposed_with p.rules) (issued p) }
 {}
 
 /// An epoch is unavoidable exactly if no reduction of it is free of conflict.
+#[tactic(auto, using(pdl::proofs::Reduction::unavoidable_exactly))]
 pub fn unavoidable_exactly()
     ensures { (p : Policy) (e : Epoch) → (unavoidable p e ≡ true) ↔ ¬ Reducible p.constraints (proposed_with p.rules) e }
 {}
 
 /// A comparison that names a missing reading does not hold in a rule.
+#[tactic(auto, using(policy::proofs::MissingLaws::missing_in_rule))]
 pub fn missing_in_rule()
     ensures { (rs : Readings) (c : Comparison) → NamesMissing rs c → comparison_holds Part.Rules rs c ≡ false }
 {}
 
 /// A comparison that names a missing reading holds in a constraint.
+#[tactic(auto, using(policy::proofs::MissingLaws::missing_in_constraint))]
 pub fn missing_in_constraint()
     ensures { (rs : Readings) (c : Comparison) → NamesMissing rs c → comparison_holds Part.Constraints rs c ≡ true }
 {}
 
 /// The worked examples: texts, epochs and what the reference machine answers to them.
+#[tactic(auto, using(crate::proofs::Examples::examples_hold))]
 pub fn examples_hold()
     ensures { map computed examples ≡ examples }
 {}

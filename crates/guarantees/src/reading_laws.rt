@@ -34,6 +34,7 @@ pub fn grammar_exact()
 {}
 
 /// A line is refused exactly for the first of these: its shape, a number out of range, too many parts, an event or an action twice.
+#[tactic(auto, using(acceptance::proofs::OneLine::line_refused_exactly))]
 pub fn line_refused_exactly()
     ensures { (form : ℕ) (line : List ℕ) (f : Fault) → (line_answer form line ≡ Err f) ↔ LineRefused form line f }
 {}
@@ -44,6 +45,7 @@ pub fn line_accepted_exactly()
 {}
 
 /// A line is skipped exactly if it has no token, or its first token begins with `#`.
+#[tactic(auto, using(acceptance::proofs::OneLine::line_skipped_exactly))]
 pub fn line_skipped_exactly()
     ensures { (form : ℕ) (line : List ℕ) → (line_answer form line ≡ Ok None) ↔ LineSkipped line }
 {}
@@ -65,16 +67,19 @@ pub fn bare_prefix_refused()
 {}
 
 /// One to eight hexadecimal digits behind `0x` are the constant whose word of 32 bits in two's complement they are.
+#[tactic(auto, using(acceptance::proofs::Patterns::pattern_read))]
 pub fn pattern_read()
     ensures { (ds : List ℕ) → IsPattern ds → (k : ℤ) × (constant_of (prefixed ds) ≡ Some k) × HasWord k (hex_number ds) }
 {}
 
 /// Every constant is a decimal one, with that value, or `0x` and one or more hexadecimal digits.
+#[tactic(auto, using(acceptance::proofs::Patterns::constant_forms))]
 pub fn constant_forms()
     ensures { (t : Token) (k : ℤ) → constant_of t ≡ Some k → (decimal_of t ≡ Some k) ⊎ Hexadecimal t }
 {}
 
 /// The lines of a text are its first line, up to the first line end, and the lines of what stands behind that end.
+#[tactic(auto, using(syntax::proofs::AnswerLaws::lines_here))]
 pub fn lines_go_on()
     ensures { (text : List ℕ) → 0 < length text → lines_of text ≡ first_line text ∷ lines_of (without_end (behind_line text)) }
 {}
@@ -86,27 +91,32 @@ pub fn text_accepted_exactly()
 
 /// Two texts are refused exactly for their first fault: the maker's text before the site's, each for its length before its lines, and the first line that
 /// is neither skipped nor accepted within the limits, which are counted over both texts.
+#[tactic(auto, using(acceptance::proofs::FirstFault::texts_refused_exactly))]
 pub fn texts_refused_exactly()
     ensures { (form : ℕ) (maker site : List ℕ) (r : Refusal) → (read_texts form maker site ≡ Err r) ↔ TextsFault form maker site r }
 {}
 
 /// An epoch line is refused exactly for the first test that it fails: its length, its shape, its ranges, a reading that is given twice.
+#[tactic(auto, using(acceptance::proofs::FirstFault::epoch_refused_exactly))]
 pub fn epoch_refused_exactly()
     ensures { (line : List ℕ) (refusal : Refusal) → (read_epoch line ≡ Err refusal) ↔ EpochFault line refusal }
 {}
 
 /// An epoch line has a wrong shape where a value in it, behind the first `=` of a token, is `0x` alone, or `0x` and bytes of which some one is no
 /// hexadecimal digit, whatever else the line has.
+#[tactic(auto, using(acceptance::proofs::Prefixed::epoch_bare_prefix_refused))]
 pub fn epoch_bare_prefix_refused()
     ensures { (t : Token) (left ds : List ℕ) → at_equals t ≡ Some (record { left = left; right = prefixed ds }) → (line : List ℕ) → length line ≤ epoch_limit → Contains (tokens_of line) t → (ds ≡ []) ⊎ (list_all is_hex_digit ds ≡ false) → read_epoch line ≡ Err (refusal Fault.EpochSyntax 0) }
 {}
 
 /// An epoch line of items, in which a value is `0x` and more than eight hexadecimal digits, is out of range, whatever else it has.
+#[tactic(auto, using(acceptance::proofs::Prefixed::epoch_wide_constant_refused))]
 pub fn epoch_wide_constant_refused()
     ensures { (t : Token) (left ds : List ℕ) → at_equals t ≡ Some (record { left = left; right = prefixed ds }) → (line : List ℕ) → length line ≤ epoch_limit → Contains (tokens_of line) t → list_all is_hex_digit ds ≡ true → pattern_digits < length ds → list_any (nat_eq 10) line ≡ false → (is : List Item) → items_of (tokens_of line) ≡ Some is → read_epoch line ≡ Err (refusal Fault.EpochRange 0) }
 {}
 
 /// With an empty site's text two texts have the answer of the maker's alone.
+#[tactic(auto, using(acceptance::proofs::Texts::read_alone))]
 pub fn read_alone()
     ensures { (form : ℕ) (text : List ℕ) → texts_read form text [] ≡ text_read form text }
 {}
@@ -117,6 +127,7 @@ pub fn texts_joint()
 {}
 
 /// On an accepted line an event has occurred exactly if the line names it.
+#[tactic(auto, using(acceptance::proofs::Named::line_names))]
 pub fn line_names()
     ensures { (e : Epoch) (line : List ℕ) (is : List Item) → items_of (tokens_of line) ≡ Some is → read_epoch line ≡ Ok e → (n : ℕ) → has_event e.events (record { 0 = n }) ≡ list_any (nat_eq n) (named_by is) }
 {}
@@ -127,6 +138,7 @@ pub fn line_gives()
 {}
 
 /// On an accepted line a reading that the line does not give is missing.
+#[tactic(auto, using(acceptance::proofs::Given::line_lacks))]
 pub fn line_lacks()
     ensures { (e : Epoch) (line : List ℕ) (is : List Item) → items_of (tokens_of line) ≡ Some is → read_epoch line ≡ Ok e → (n : ℕ) → list_any (nat_eq n) (given_by is) ≡ false → has_reading e.readings.given (record { 0 = n }) ≡ false }
 {}

@@ -15,21 +15,25 @@ ghost use Rattle.decompile.specs.Decompile.{decompiled};
 ghost use Rattle.guarantees.specs.Claims.{CompilesTo, DecompilesTo};
 
 /// A written line is its tokens with one space between each two, and no space else.
+#[tactic(auto, using(printer::proofs::SplitLaws::one_space))]
 pub fn one_space()
     ensures { (l : PolicyLine) → line_bytes l ≡ joined_by 32 (tokens_of (line_bytes l)) }
 {}
 
 /// The lines of a written text are its written lines, one behind another.
+#[tactic(auto, using(printer::proofs::SplitLaws::text_lines))]
 pub fn text_lines()
     ensures { (ls : List PolicyLine) → lines_of (lines_text ls) ≡ map line_bytes ls }
 {}
 
 /// What is written from a policy within the limits is accepted and has that policy.
+#[tactic(auto, using(printer::proofs::Printing::text_policy))]
 pub fn text_policy()
     ensures { (form : ℕ) (p : Policy) → Acceptable form p → policy_of form (text_of p) ≡ Some p }
 {}
 
 /// No two policies within the limits, of whichever forms, are written as the same text.
+#[tactic(auto, using(printer::proofs::Printing::text_injective))]
 pub fn text_injective()
     ensures { (form form' : ℕ) (p q : Policy) → Acceptable form p → Acceptable form' q → text_of p ≡ text_of q → p ≡ q }
 {}
@@ -45,6 +49,7 @@ pub fn never_short()
 {}
 
 /// In each form some accepted text compiles to an image whose written text has so many bytes: no smaller buffer is enough for all.
+#[tactic(auto, using(crate::proofs::RoundTrip::bound_reached))]
 pub fn bound_reached()
     ensures { (form : ℕ) → known_form form ≡ true → (text : List ℕ) × ((image : List ℕ) × ((written : List ℕ) × (CompilesTo form text image × (DecompilesTo image written × (length written ≡ longest_text_for form))))) }
 {}

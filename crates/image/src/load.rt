@@ -25,6 +25,7 @@ const CONSTRAINT_WORD_LIMIT: usize = 1088;
 /// Bytes of the largest image: both parts, word 0 and two check words, of four bytes each.
 pub const IMAGE_SIZE: usize = 13068;
 
+#[tactic(auto, using(std::proofs::lemmas::Bool::Decides::nat_tests), unfolding(crate::specs::Check::well_sized))]
 fn well_sized(size: usize) -> bool
     ensures { result ≡ well_sized size }
 {
@@ -39,6 +40,7 @@ fn well_sized(size: usize) -> bool
 
 // How many lines of a part the words are, at most `limit` of them; or the refusal where none fits, at an index in the image, in which
 // the first word has the index `first`.
+#[tactic(auto, using(crate::proofs::PartLaws::counted_all, crate::proofs::PartLaws::counted_full, crate::proofs::PartLaws::counted_fault, crate::proofs::PartLaws::counted_more, crate::proofs::PartLaws::line_inside, decode::proofs::LengthLaws::rest_between, word::proofs::ChunkLaws::words_in_length))]
 #[inline(always)]
 fn part_lines(
     words: &[[u8; 4]],
@@ -69,6 +71,7 @@ fn part_lines(
 }
 
 // What is wrong with the counts of word 0, 9, or else with the check words, of a known form.
+#[tactic(auto, using(word::proofs::ChunkLaws::words_in_length, std::proofs::lemmas::Bool::Decides::nat_tests), unfolding(crate::specs::Steps::Checks::whole_answer))]
 #[inline(always)]
 fn check_counts(
     words: &[[u8; 4]],
@@ -93,6 +96,7 @@ fn check_counts(
 
 // What is wrong with word 0 and the check words: the form, 8, or else what the form asks of them. Form 1 comes first, with a copy of its
 // own, so that it is asked for once.
+#[tactic(auto, unfolding(crate::specs::Steps::Checks::checks_answer, layout::specs::Layout::known_form))]
 #[inline(always)]
 fn check_form(
     words: &[[u8; 4]],
@@ -112,6 +116,7 @@ fn check_form(
 }
 
 // The image of a form of which both parts fit the words; or the refusal at the first word at which no line fits.
+#[tactic(auto, using(crate::proofs::HeldLaws::counted_whole), unfolding(crate::specs::Lines::part_lines, crate::specs::Steps::Part::part_answer, crate::specs::Load::body_answer))]
 #[inline(always)]
 fn load_body(
     words: &[[u8; 4]],
@@ -146,6 +151,7 @@ fn load_body(
 }
 
 /// The parts of an image, or why and where it is refused.
+#[tactic(auto, using(crate::proofs::LoadLaws::load_size, crate::proofs::LoadLaws::load_checked, crate::proofs::LoadLaws::checks_count, word::proofs::ChunkLaws::words_in_length))]
 pub fn load_image(image: &[u8]) -> Result<Image<'_>, Refusal>
     ensures { result_map_both image_contents (λ refusal. refusal) result ≡ load image.now }
 {

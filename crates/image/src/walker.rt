@@ -23,6 +23,7 @@ impl<'a> Walker<'a> {
     }
 
     // The words from here on.
+    #[tactic(auto, using(decode::proofs::LengthLaws::words_dropped, std::proofs::lemmas::List::take_rest))]
     fn rest(self) -> &'a [[u8; 4]]
         ensures { words_in result.now ≡ drop self.entry.at (words_in self.entry.words.now) }
     {
@@ -50,6 +51,7 @@ impl<'a> Iterator for Walker<'a> {
 
     ghost remaining = { item_count lines_ahead };
 
+    #[tactic(auto, using(crate::proofs::GivenLaws::lines_none, crate::proofs::GivenLaws::lines_step, word::proofs::ChunkLaws::words_in_length))]
     #[inline(always)]
     fn next(&mut self) -> Option<Line> {
         let rest = self.rest();

@@ -1,20 +1,10 @@
 -- Laws of the sum of words: summing one after the other, one word changed, and the word that brings the sum to 0.
-use Rattle.std.proofs.Common.{◌≡◌, ℕ, ◌+◌, ◌%◌, ◌<◌, min, List, [], ◌∷◌, ◌++◌, length, get_or, take, set, sym, ap, ◌∙◌, arith}
-use Rattle.std.proofs.lemmas.List.{take_min}
+use Rattle.std.proofs.Common.{◌≡◌, ℕ, ◌+◌, ◌%◌, ◌<◌, List, [], ◌∷◌, ◌++◌, length, get_or, set, arith}
 use Rattle.std.proofs.lemmas.List.Sums.{sum_by-append, sum_by-set}
-use Rattle.word.proofs.ChunkLaws.{words_in_length}
-use Rattle.word.specs.Chunk.{words_in}
-use Rattle.word.specs.Word.{word_limit, between}
+use Rattle.word.specs.Word.{word_limit}
 use Rattle.layout.specs.Layout.{sum, check_word}
 
 -- ---- the last word
-
--- the words of the buffer's part before an index
-pub words_before : (index end : ℕ) (held front : List (List ℕ)) (words : List ℕ) → words_in held ≡ words → end ≡ min index (length held) → words_in front ≡ between 0 end (words_in held)
-    → words_in front ≡ take index words
-unfolding between
-words_before index end held front words e n f =
-    f ∙ ap (λ (k : ℕ). take k (words_in held)) (n ∙ ap (min index) (sym (words_in_length held))) ∙ take_min index (words_in held) ∙ ap (take index) e
 
 pub check_word_is : (words : List ℕ) (total r : ℕ) → total ≡ sum words % word_limit → (r + total) % word_limit ≡ 0 → r < word_limit → r ≡ check_word words
 unfolding check_word
@@ -24,9 +14,9 @@ pub sum_append : (a b : List ℕ) → sum (a ++ b) ≡ sum a + sum b
 unfolding sum
 sum_append a b = sum_by-append (λ (w : ℕ). w) a b
 
-pub sum_alone : (w : ℕ) → sum (w ∷ []) ≡ w
+pub sum_one_more : (ws : List ℕ) (w : ℕ) → sum (ws ++ w ∷ []) ≡ sum ws + w
 unfolding sum
-sum_alone w = omega arith
+sum_one_more ws w = omega (arith, sum_append ws (w ∷ []))
 
 pub check_sum : (words : List ℕ) → sum (words ++ check_word words ∷ []) % word_limit ≡ 0
 unfolding sum check_word

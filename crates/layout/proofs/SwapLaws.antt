@@ -1,10 +1,7 @@
 -- Two neighbours exchanged: their sum is as it was, and the weighted one is not, unless they are the same.
-use Rattle.std.proofs.Common.{◌≡◌, ℕ, zero, suc, ◌+◌, ◌*◌, ◌%◌, ◌<◌, ◌≤◌, List, [], ◌∷◌, length, get_or, set, take, sym, ap, ap₂, ◌∙◌, arith, get_or-take, length-set, length-take}
-use Rattle.std.proofs.Math.Nat.{mul-add, mul-one}
+use Rattle.std.proofs.Common.{◌≡◌, ◌≢◌, ℕ, zero, suc, ◌+◌, ◌*◌, ◌%◌, ◌<◌, ◌≤◌, List, [], ◌∷◌, length, get_or, set, take, sym, ap, arith, get_or-take, length-set, length-take, mul-add, mul-one, get_or-set_other, get_or-set_same, swap}
 use Rattle.std.proofs.Math.Seq.{take-set-lt}
-use Rattle.std.proofs.lemmas.List.{get_or-set_other, get_or-set_same}
 use Rattle.std.proofs.lemmas.List.Edits.{swap_is}
-use Rattle.std.specs.List.{swap}
 use Rattle.word.specs.Word.{word_limit, Below}
 use Rattle.layout.specs.Layout.{sum, weighted_from, weighted_word}
 use Rattle.layout.proofs.SumLaws.{sum_set}
@@ -12,63 +9,38 @@ use Rattle.layout.proofs.SumLaws.{sum_set}
 weighted_set : (n i v : ℕ) (ws : List ℕ) → i < length ws → weighted_from n (set ws i v) + get_or ws i 0 * (n + i + 1) ≡ weighted_from n ws + v * (n + i + 1)
 unfolding weighted_from
 weighted_set n i v [] h = absurd (omega arith)
-weighted_set n zero v (w ∷ ws) h =
-    let e : n + 1 ≡ n + 0 + 1 = omega arith in
-    let a = ap (λ (k : ℕ). w * k) e in
-    let b = ap (λ (k : ℕ). v * k) e in
-    omega (arith, a, b)
+weighted_set n zero v (w ∷ ws) h = let e : n + 0 + 1 ≡ n + 1 = omega arith in rw e (omega arith)
 weighted_set n (suc i) v (w ∷ ws) h =
-    let e : n + 1 + i + 1 ≡ n + suc i + 1 = omega arith in
-    let k = weighted_set (n + 1) i v ws (omega arith) in
-    let a = ap (λ (m : ℕ). get_or ws i 0 * m) e in
-    let b = ap (λ (m : ℕ). v * m) e in
-    omega (arith, k, a, b)
+    let e : n + suc i + 1 ≡ n + 1 + i + 1 = omega arith in
+    rw e (omega (arith, weighted_set (n + 1) i v ws (omega arith)))
 
 one_more : (w n : ℕ) → w * (n + 1 + 1) ≡ w * (n + 1) + w
-one_more w n = mul-add w (n + 1) 1 ∙ ap (λ (k : ℕ). w * (n + 1) + k) (mul-one w)
+one_more w n = rw (mul-add w (n + 1) 1, mul-one w)
 
 module _ (ws : List ℕ) (i : ℕ) (inside : i + 1 < length ws) where
-  a : ℕ
+  abbrev a : ℕ
   a = get_or ws i 0
 
-  b : ℕ
+  abbrev b : ℕ
   b = get_or ws (i + 1) 0
 
-  first : List ℕ
-  first = set ws i b
-
-  both : swap ws i (i + 1) ≡ set first (i + 1) a
-  unfolding a b first
+  both : swap ws i (i + 1) ≡ set (set ws i b) (i + 1) a
   both = sym (swap_is ws i (i + 1) 0 (omega arith) inside)
 
-  next : get_or first (i + 1) 0 ≡ b
-  unfolding b first
-  next = get_or-set_other ws i (i + 1) (get_or ws (i + 1) 0) 0 (λ e. omega arith)
+  next : get_or (set ws i b) (i + 1) 0 ≡ b
+  next = get_or-set_other ws i (i + 1) b 0 (λ e. omega arith)
 
-  long : i + 1 < length first
-  unfolding first b
-  long = omega (arith, length-set ws i (get_or ws (i + 1) 0))
+  long : i + 1 < length (set ws i b)
+  long = omega (arith, length-set ws i b)
 
   pub sum_swapped : sum (swap ws i (i + 1)) ≡ sum ws
-  unfolding a b first
-  sum_swapped =
-      let e = ap sum both in
-      let s = sum_set first (i + 1) a long in
-      let t = sum_set ws i b (omega arith) in
-      omega (arith, e, s, t, next)
+  sum_swapped = rw both (omega (arith, sum_set (set ws i b) (i + 1) a long, sum_set ws i b (omega arith), next))
 
   pub weighted_swapped : weighted_from 0 (swap ws i (i + 1)) + get_or ws (i + 1) 0 ≡ weighted_from 0 ws + get_or ws i 0
-  unfolding a b first
   weighted_swapped =
-      let e = ap (weighted_from 0) both in
-      let s = weighted_set 0 (i + 1) a first long in
-      let t = weighted_set 0 i b ws (omega arith) in
-      let x : a * (0 + (i + 1) + 1) ≡ a * (0 + i + 1) + a = ap (λ (k : ℕ). a * k) (the_sum i) ∙ one_more a (0 + i) in
-      let y : get_or first (i + 1) 0 * (0 + (i + 1) + 1) ≡ b * (0 + i + 1) + b = ap (λ (k : ℕ). k * (0 + (i + 1) + 1)) next ∙ ap (λ (k : ℕ). b * k) (the_sum i) ∙ one_more b (0 + i) in
-      omega (arith, e, s, t, x, y)
-    where
-      the_sum : (i : ℕ) → 0 + (i + 1) + 1 ≡ 0 + i + 1 + 1
-      the_sum i = omega arith
+      let sum : 0 + (i + 1) + 1 ≡ 0 + i + 1 + 1 = omega arith in
+      let s = rw (next, sum, one_more a (0 + i), one_more b (0 + i)) at (weighted_set 0 (i + 1) a (set ws i b) long) in
+      rw both (omega (arith, s, weighted_set 0 i b ws (omega arith)))
 
 apart : (s s' a b : ℕ) → s' + b ≡ s + a → s' % word_limit ≡ s % word_limit → a < word_limit → b < word_limit → a ≡ b
 apart s s' a b e m h k = omega arith
@@ -77,36 +49,24 @@ module _ (ws : List ℕ) (i n : ℕ) (inside : i + 1 < n) (whole : n ≤ length 
   -- the words before an index, of which both are two
   pub taken_swapped : take n (swap ws i (i + 1)) ≡ swap (take n ws) i (i + 1)
   taken_swapped =
-      let a : ℕ = get_or ws i 0 in
-      let b : ℕ = get_or ws (i + 1) 0 in
-      let x : get_or (take n ws) i 0 ≡ a = get_or-take n ws i 0 (omega arith) in
-      let y : get_or (take n ws) (i + 1) 0 ≡ b = get_or-take n ws (i + 1) 0 inside in
-      ap (take n) (sym (swap_is ws i (i + 1) 0 (omega arith) (omega arith)))
-      ∙ take-set-lt n (set ws i b) (i + 1) a inside
-      ∙ ap (λ (x : List ℕ). set x (i + 1) a) (take-set-lt n ws i b (omega arith))
-      ∙ ap₂ (λ (p q : ℕ). set (set (take n ws) i q) (i + 1) p) (sym x) (sym y)
-      ∙ swap_is (take n ws) i (i + 1) 0 (omega (arith, length-take n ws)) (omega (arith, length-take n ws))
+      rw (← swap_is ws i (i + 1) 0 (omega arith) (omega arith), take-set-lt n (set ws i (get_or ws (i + 1) 0)) (i + 1) (get_or ws i 0) inside, take-set-lt n ws i (get_or ws (i + 1) 0) (omega arith), ← get_or-take n ws i 0 (omega arith), ← get_or-take n ws (i + 1) 0 inside)
+      (swap_is (take n ws) i (i + 1) 0 (omega (arith, length-take n ws)) (omega (arith, length-take n ws)))
 
-  -- a word behind both is as it was
+  -- a word that is neither is as it was
+  others : (k : ℕ) → k ≢ i → k ≢ i + 1 → get_or (swap ws i (i + 1)) k 0 ≡ get_or ws k 0
+  others k p q =
+      rw (← swap_is ws i (i + 1) 0 (omega arith) (omega arith), get_or-set_other (set ws i (get_or ws (i + 1) 0)) (i + 1) k (get_or ws i 0) 0 (λ e. omega arith), get_or-set_other ws i k (get_or ws (i + 1) 0) 0 (λ e. omega arith))
+
   pub behind_swapped : (k : ℕ) → i + 1 < k → get_or (swap ws i (i + 1)) k 0 ≡ get_or ws k 0
-  behind_swapped k h =
-      ap (λ (x : List ℕ). get_or x k 0) (sym (swap_is ws i (i + 1) 0 (omega arith) (omega arith)))
-      ∙ get_or-set_other (set ws i (get_or ws (i + 1) 0)) (i + 1) k (get_or ws i 0) 0 (λ e. omega arith)
-      ∙ get_or-set_other ws i k (get_or ws (i + 1) 0) 0 (λ e. omega arith)
+  behind_swapped k h = others k (omega arith) (omega arith)
 
-  -- and so is one before them
   pub before_swapped : (k : ℕ) → k < i → get_or (swap ws i (i + 1)) k 0 ≡ get_or ws k 0
-  before_swapped k h =
-      ap (λ (x : List ℕ). get_or x k 0) (sym (swap_is ws i (i + 1) 0 (omega arith) (omega arith)))
-      ∙ get_or-set_other (set ws i (get_or ws (i + 1) 0)) (i + 1) k (get_or ws i 0) 0 (λ e. omega arith)
-      ∙ get_or-set_other ws i k (get_or ws (i + 1) 0) 0 (λ e. omega arith)
+  before_swapped k h = others k (omega arith) (omega arith)
 
   -- and the one behind stands in the place of the other
   pub moved_swapped : get_or (swap ws i (i + 1)) i 0 ≡ get_or ws (i + 1) 0
   moved_swapped =
-      ap (λ (x : List ℕ). get_or x i 0) (sym (swap_is ws i (i + 1) 0 (omega arith) (omega arith)))
-      ∙ get_or-set_other (set ws i (get_or ws (i + 1) 0)) (i + 1) i (get_or ws i 0) 0 (λ e. omega arith)
-      ∙ get_or-set_same ws i (get_or ws (i + 1) 0) 0 (omega arith)
+      rw (← swap_is ws i (i + 1) 0 (omega arith) (omega arith), get_or-set_other (set ws i (get_or ws (i + 1) 0)) (i + 1) i (get_or ws i 0) 0 (λ e. omega arith)) (get_or-set_same ws i (get_or ws (i + 1) 0) 0 (omega arith))
 
   -- two neighbours that differ change the weighted word of all before an index when they are exchanged
   pub swap_noticed : Below word_limit ws → weighted_word (take n (swap ws i (i + 1))) ≡ weighted_word (take n ws) → get_or ws i 0 ≡ get_or ws (i + 1) 0

@@ -49,6 +49,7 @@ pub fn sum_twice(words: &[[u8; 4]]) -> Sums
 
 /// What is wrong with the check words of an image, which stand from an index on: its sum, 10, or else its weighted sum, 16. Nothing is
 /// weighted in form 1.
+#[tactic(auto, using(crate::proofs::SumsLaws::sum_behind, word::proofs::ChunkLaws::words_in_length, std::proofs::lemmas::Bool::Decides::nat_tests), unfolding(crate::specs::Steps::Sums::sums_answer, crate::specs::Layout::weighted_right, crate::specs::Layout::check_count, word::specs::Word::between))]
 #[inline(always)]
 pub fn check_sums(words: &[[u8; 4]], form: u8, index: usize) -> Result<(), Refusal>
     requires { length words.now ≡ index + check_count form }
@@ -75,6 +76,7 @@ pub fn check_sums(words: &[[u8; 4]], form: u8, index: usize) -> Result<(), Refus
 }
 
 // The words before an index, all where there are fewer.
+#[tactic(auto, using(std::proofs::lemmas::List::take_min, word::proofs::ChunkLaws::words_in_length), unfolding(word::specs::Word::between))]
 fn words_before(bytes: &[u8], index: usize) -> &[[u8; 4]]
     ensures { words_in result.now ≡ take index (words_of bytes.now) }
 {
@@ -83,6 +85,7 @@ fn words_before(bytes: &[u8], index: usize) -> &[[u8; 4]]
 }
 
 // Two words, and whether both fit.
+#[tactic(auto, using(word::proofs::WriteLaws::fits_in, word::proofs::WriteLaws::fits_out, word::proofs::WriteLaws::put_out, word::proofs::WriteLaws::put_append, word::proofs::WriteLaws::put_length))]
 fn put_both(buffer: &mut [u8], index: usize, first: u32, second: u32) -> bool
     ensures answer { result ≡ fits buffer.old index 2 }
     ensures buffer { buffer.new ≡ put_words buffer.old index (first ∷ second ∷ []) }
@@ -95,6 +98,7 @@ fn put_both(buffer: &mut [u8], index: usize, first: u32, second: u32) -> bool
 }
 
 /// The check words for the words before `index`, put in there, and whether they fit. Where they do not, the buffer stays as it is.
+#[tactic(auto, using(crate::proofs::SumLaws::sum_one_more), unfolding(crate::specs::Layout::check_count, crate::specs::Layout::check_words, crate::specs::Layout::check_word))]
 pub fn put_check_words(buffer: &mut [u8], form: u8, index: usize) -> bool
     ensures answer { result ≡ fits buffer.old index (check_count form) }
     ensures buffer { buffer.new ≡ put_words buffer.old index (check_words form (take index (words_of buffer.old))) }

@@ -12,6 +12,7 @@ use policy::{Comparison, Ending, Operand, Test, constant_word};
 use word::put_word;
 
 /// The words of one comparison, for which there is room.
+#[tactic(auto, using(crate::proofs::LayoutLaws::put_constant), unfolding(operation::specs::Parts::comparison_words, operation::specs::Parts::constant_words))]
 fn put_comparison(buffer: &mut [u8], index: usize, comparison: Comparison, skip: u8)
     requires { index + operand_size comparison.operand ≤ length buffer.old / 4 }
     ensures { buffer.new ≡ put_words buffer.old index (comparison_words comparison skip) }
@@ -27,6 +28,7 @@ fn put_comparison(buffer: &mut [u8], index: usize, comparison: Comparison, skip:
 }
 
 /// The words of the comparisons and of the ending: `size` words, for which there is room.
+#[tactic(auto, using(crate::proofs::LayoutLaws::condition_size_next, crate::proofs::LayoutLaws::condition_small, crate::proofs::LayoutLaws::operand_counted, crate::proofs::LayoutLaws::condition_step, crate::proofs::LayoutLaws::condition_end, word::proofs::WriteLaws::put_length))]
 fn put_condition(
     buffer: &mut [u8],
     index: usize,
@@ -51,6 +53,7 @@ fn put_condition(
 }
 
 /// The words of the heads of a line of `size` words, for which there is room.
+#[tactic(auto, using(crate::proofs::LayoutLaws::heads_step, crate::proofs::LayoutLaws::heads_end, word::proofs::WriteLaws::put_length))]
 fn put_heads(buffer: &mut [u8], index: usize, heads: &[Test], size: usize)
     requires within { length heads.now ≤ size }
     requires short { size < 33 }

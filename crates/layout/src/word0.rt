@@ -3,6 +3,7 @@ ghost use Rattle.std.specs.Prelude.{◌≡◌, ◌%◌};
 ghost use Rattle.layout.specs.Header.{pack_header, form_of, rule_count_of, constraint_count_of};
 
 /// Word 0, of counts that fit their fields.
+#[tactic(auto, unfolding(crate::specs::Header::pack_header))]
 pub fn header(form: u8, rule_words: usize, constraint_words: usize) -> u32
     ensures { result ≡ pack_header form (rule_words % 4096) (constraint_words % 4096) }
 {

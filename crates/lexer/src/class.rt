@@ -44,12 +44,14 @@ impl Class {
     }
 }
 
+#[tactic(auto, unfolding(crate::specs::Byte::class_of))]
 pub(crate) fn is_space(b: u8) -> bool
     ensures { result ≡ is_space b }
 {
     matches!(Class::of(b), Class::Space)
 }
 
+#[tactic(auto, unfolding(crate::specs::Byte::class_of))]
 pub fn is_digit(b: u8) -> bool
     ensures { result ≡ is_digit b }
 {
@@ -57,6 +59,7 @@ pub fn is_digit(b: u8) -> bool
 }
 
 /// Whether a token ends before the byte: it is a space or a line end.
+#[tactic(auto, unfolding(crate::specs::Byte::class_of))]
 pub(crate) fn ends_token(b: u8) -> bool
     ensures { result ≡ ends_token b }
 {

@@ -48,7 +48,7 @@ pub fn at_token_end(text: &[u8]) -> bool
 }
 
 /// What stands behind the token in front, if it is the keyword, in which no token ends.
-#[tactic(auto, unfolding(crate::specs::Byte::bytes_equal, crate::specs::Steps::Scan::keyword_in))]
+#[tactic(auto, using(crate::proofs::KeywordLaws::keyword_whole), unfolding(crate::specs::Byte::bytes_equal, crate::specs::Steps::Scan::keyword_in))]
 pub fn keyword<'a>(text: &'a [u8], keyword: &[u8]) -> Option<&'a [u8]>
     requires { list_all in_token keyword.now ≡ true }
     ensures { option_map (λ rest. rest.now) result ≡ keyword_in text.now keyword.now }

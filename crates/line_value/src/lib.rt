@@ -79,7 +79,7 @@ impl Line {
     }
 
     /// Its comparisons.
-    #[tactic(auto, using(crate::proofs::LineLaws::comparisons_back))]
+    #[tactic(auto, unfolding(crate::specs::Value::line_of, policy::specs::Line::comparisons_of))]
     pub fn comparisons(&self) -> &[Comparison]
         ensures items { result.now ≡ comparisons_of self.now }
         ensures few { length result.now ≤ 4 }
@@ -88,7 +88,7 @@ impl Line {
     }
 
     /// What it ends as.
-    #[tactic(auto, using(crate::proofs::LineLaws::ending_back))]
+    #[tactic(auto, unfolding(crate::specs::Value::line_of, policy::specs::Line::ending_of))]
     pub fn ending(&self) -> Ending
         ensures { result ≡ ending_of self.now }
     {
@@ -96,7 +96,7 @@ impl Line {
     }
 
     /// How many of the comparisons have a constant.
-    #[tactic(auto, using(policy::proofs::SeenLaws::constants_none, policy::proofs::SeenLaws::constants_past, policy::proofs::SeenLaws::one_constant, crate::proofs::LineLaws::items_past, crate::proofs::LineLaws::items_ended))]
+    #[tactic(auto, unfolding(policy::specs::Line::constant_count))]
     pub fn constants(&self) -> usize
         ensures value { result ≡ constant_count (comparisons_of self.now) }
         ensures upper_bound { result ≤ 4 }

@@ -62,7 +62,7 @@ impl Tests {
     }
 
     /// Whether some event or action stands twice.
-    #[tactic(auto, using(policy::proofs::SeenLaws::seen_none, policy::proofs::SeenLaws::seen_here, policy::proofs::SeenLaws::seen_past, crate::proofs::LineLaws::items_past, crate::proofs::LineLaws::items_ended))]
+    #[tactic(auto, unfolding(policy::specs::Steps::Seen::seen_in))]
     pub fn has_repeats(&self) -> bool
         ensures { result ≡ seen_in 0 (map test_number self.now) }
     {

@@ -1,8 +1,6 @@
 -- The lines of a whole input: those that have ended, and the open one where it has a byte.
-use Rattle.std.proofs.Common.{◌≡◌, ℕ, zero, suc, ◌<◌, false, List, [], ◌∷◌, ◌++◌, take, refl, sym, ap, ◌∙◌, append_assoc, append-nil, arith, eqb-true}
-use Rattle.std.proofs.lemmas.Bool.{or_parts}
+use Rattle.std.proofs.Common.{◌≡◌, ℕ, ◌<◌, false, List, [], ◌∷◌, ◌++◌, take, refl, sym, ap, ◌∙◌, append_assoc, append-nil, arith, eqb-true}
 use Rattle.std.proofs.lemmas.List.Folds.{list_any-append}
-use Rattle.std.specs.List.{list_any}
 use Rattle.lexer.specs.Byte.{is_line_end}
 use Rattle.lexer.specs.Lines.{prepend, pieces, lines_of}
 use Rattle.stream.specs.Lines.{add_to_whole, whole_part}
@@ -13,17 +11,13 @@ use Rattle.lined.specs.Lines.{ended_behind, open_behind, ended_lines, open_line,
 lines_alone : (line : List ℕ) → HasNoEnd line → lines_of line ≡ last_line line
 unfolding lines_of pieces prepend
 lines_alone [] h = refl
-lines_alone (b ∷ []) h = rw (or_parts (is_line_end b) false h).0
-lines_alone (b ∷ c ∷ line) h =
-    let (no_end, none) = or_parts (is_line_end b) (list_any is_line_end (c ∷ line)) h in
-    rw no_end (ap (prepend b) (lines_alone (c ∷ line) none))
+lines_alone (b ∷ []) h = grind arith
+lines_alone (b ∷ c ∷ line) h = grind (arith, lines_alone (c ∷ line))
 
 pub lines_first : (line rest : List ℕ) → HasNoEnd line → lines_of (line ++ 10 ∷ rest) ≡ line ∷ lines_of rest
 unfolding lines_of pieces prepend
 lines_first [] rest h = refl
-lines_first (b ∷ line) rest h =
-    let (no_end, none) = or_parts (is_line_end b) (list_any is_line_end line) h in
-    rw no_end (ap (prepend b) (lines_first line rest none))
+lines_first (b ∷ line) rest h = grind (arith, lines_first line rest)
 
 -- a byte more
 no_end_more : (line : List ℕ) (b : ℕ) → HasNoEnd line → is_line_end b ≡ false → HasNoEnd (line ++ b ∷ [])
@@ -40,10 +34,11 @@ all_lines bytes = all_behind bytes [] refl
 
 -- as much of each as is handed on
 pub cut_last : (most : ℕ) → 0 < most → (lines : List (List ℕ)) (last : List ℕ) → cut_to most lines ++ last_line (take most last) ≡ cut_to most (lines ++ last_line last)
-cut_last zero h lines last = absurd (omega arith)
-cut_last (suc most) h [] [] = refl
-cut_last (suc most) h [] (b ∷ last) = refl
-cut_last (suc most) h (line ∷ lines) last = ap (λ ls. take (suc most) line ∷ ls) (cut_last (suc most) h lines last)
+cut_last most h [] last = cut_one most last h
+  where
+    cut_one : (most : ℕ) (last : List ℕ) → 0 < most → last_line (take most last) ≡ cut_to most (last_line last)
+    cut_one most last h = grind arith
+cut_last most h (line ∷ lines) last = ap (λ ls. take most line ∷ ls) (cut_last most h lines last)
 
 pub cut_lines : (most : ℕ) → 0 < most → (bytes : List ℕ) → cut_to most (ended_lines bytes) ++ last_line (take most (open_line bytes)) ≡ cut_to most (lines_of bytes)
 cut_lines most h bytes = cut_last most h (ended_lines bytes) (open_line bytes) ∙ ap (cut_to most) (sym (all_lines bytes))
@@ -67,4 +62,4 @@ whole_lines_behind (b ∷ bytes) line h = whole_byte b bytes (whole_part bytes) 
 
 pub whole_lines : (bytes : List ℕ) → lines_of (whole_part bytes) ≡ ended_lines bytes
 unfolding lines_of pieces
-whole_lines bytes = elim (whole_part bytes) as (λ part. whole_behind [] part ≡ ended_lines bytes → lines_of part ≡ ended_lines bytes) [ [] ↦ λ e. e | x ∷ part ↦ λ e. e ] (whole_lines_behind bytes [] refl)
+whole_lines bytes = grind (arith, whole_lines_behind bytes [] refl)

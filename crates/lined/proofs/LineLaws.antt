@@ -1,9 +1,5 @@
 -- Laws of lines that come in parts.
-use Rattle.std.proofs.Common.{◌≡◌, ℕ, List, [], ◌∷◌, ◌++◌, take, sym, ap, ◌∙◌, append_assoc, append-nil, arith}
-use Rattle.std.proofs.lemmas.Bool.{or_parts}
-use Rattle.std.proofs.lemmas.List.{take-take}
-use Rattle.std.specs.List.{list_any}
-use Rattle.lexer.specs.Byte.{is_line_end}
+use Rattle.std.proofs.Common.{◌≡◌, ℕ, List, [], ◌∷◌, ◌++◌, take, sym, ap, ◌∙◌, append_assoc, append-nil, arith, take-take}
 use Rattle.stream.proofs.FrontLaws.{cut_before}
 use Rattle.lined.specs.Lines.{ended_behind, open_behind, cut_to, HasNoEnd}
 
@@ -14,9 +10,7 @@ cut_behind line bytes = (ended_behind line bytes, open_behind line bytes)
 -- bytes with no line end go to the open line
 pub part_behind : (line part rest : List ℕ) → HasNoEnd part → cut_behind line (part ++ rest) ≡ cut_behind (line ++ part) rest
 part_behind line [] rest h = ap (λ l. cut_behind l rest) (sym (append-nil line))
-part_behind line (b ∷ part) rest h =
-    let (no_end, none) = or_parts (is_line_end b) (list_any is_line_end part) h in
-    rw no_end (part_behind (line ++ b ∷ []) part rest none ∙ ap (λ l. cut_behind l rest) (append_assoc line (b ∷ []) part))
+part_behind line (b ∷ part) rest h = grind (arith, part_behind (line ++ b ∷ []) part rest, append_assoc)
 
 module _ (most : ℕ) where
   pub cut_again : (line : List ℕ) → take most (take most line) ≡ take most line

@@ -1,5 +1,5 @@
 -- What is handed out behind what waits.
-use Rattle.std.proofs.Common.{◌≡◌, ℕ, ◌+◌, List, [], ◌∷◌, ◌++◌, take, sym, ap, ◌∙◌, append_assoc, add-one}
+use Rattle.std.proofs.Common.{◌≡◌, ℕ, arith, ◌+◌, List, [], ◌∷◌, ◌++◌, take, append_assoc, add-one}
 use Rattle.stream.specs.Machine.{Goes}
 use Rattle.lined.specs.Lines.{EndsAt}
 use Rattle.lined.specs.Waiting.{Waiting, given_behind, printed_behind}
@@ -11,12 +11,7 @@ module _ {M : Type 0} (given printed : M → List ℕ → List ℕ) where
   -- what was printed waits behind what did
   pub goes_behind : (old new : M) (waits waits' bytes text : List ℕ) → waits' ≡ waits ++ text → Goes given printed old new bytes text
       → Moves (record { machine = old; waits = waits }) (record { machine = new; waits = waits' }) bytes
-  goes_behind old new waits waits' bytes text put p =
-      rw put
-      (record {
-        at_once = λ rest. ap (λ l. waits ++ l) (p.at_once rest) ∙ sym (append_assoc waits text _);
-        in_all = λ rest. ap (λ l. waits ++ l) (p.in_all rest) ∙ sym (append_assoc waits text _);
-      })
+  goes_behind old new waits waits' bytes text put p = rw put (record { at_once = λ rest. grind (arith, append_assoc, p); in_all = λ rest. grind (arith, append_assoc, p) })
 
   -- to the end of a line
   pub goes_line : (old new : M) (waits waits' bytes text : List ℕ) (n : ℕ) → EndsAt bytes n → waits' ≡ waits ++ text → Goes given printed old new (take n bytes ++ 10 ∷ []) text

@@ -59,7 +59,7 @@ pub(crate) struct Parted<'a, P: PartMachine> {
 
 impl<'a, P: PartMachine> Parted<'a, P> {
     /// Takes the bytes to the end of the first line, or all of them.
-    #[tactic(auto, using(output::proofs::AppendLaws::append_length), unfolding(output::specs::Buffer::behind))]
+    #[tactic(auto, using(output::proofs::AppendLaws::append_length, crate::proofs::EndLaws::found_none), unfolding(output::specs::Buffer::behind))]
     fn take_line(&mut self, bytes: &[u8]) -> usize
         requires some { 0 < length bytes.now }
         requires room { P.room ≤ length self.old.out.now - self.old.used }

@@ -1,7 +1,5 @@
 -- What is decided on an image whose words do what a policy yields is what the policy yields, in each mode.
-use Rattle.std.specs.Prelude.{if◌then◌else◌}
-use Rattle.std.proofs.Common.{ℕ, true, false, List, ◌≡◌, sym, ap, ap₂, ◌∙◌, Result, Ok, Err}
-use Rattle.policy.specs.declared.effect.Effects.{Effects}
+use Rattle.std.proofs.Common.{if◌then◌else◌, ℕ, true, false, List, ◌≡◌, sym, ap, ◌∙◌, Result, Ok, Err}
 use Rattle.policy.specs.declared.epoch.Epoch.{Epoch}
 use Rattle.policy.specs.declared.epoch.Readings.{Readings}
 use Rattle.policy.specs.Fault.{refusal}
@@ -24,7 +22,6 @@ use Rattle.exactness.specs.Exact.{contents_of}
 use Rattle.monitor.proofs.DecideLaws.{line_refused, reserved_refused, line_accepted}
 use Rattle.monitor.specs.Decision.{kept_by, visited_by, actions_of, yielded_by, proposed_with_by, clash_by, kept_events_by, tried_event_words, reduced_by, reduction_by, decided_by, reserved_in, decision_in, decision}
 use Rattle.monitor.specs.declared.decision.Actions.{Actions}
-use Rattle.run.specs.Run.{run_rules}
 use Rattle.meaning.proofs.Taken.{Implements, written_implements}
 
 -- what the second mode decides by a policy, with so many words
@@ -39,10 +36,7 @@ module _ (image : List ℕ) (contents : Contents) (p : Policy) (does : Implement
 
   issued_is : (e : Epoch) → yielded_by contents.parts.rules contents.parts.constraints e ≡ actions_of (proposed p.rules e) (Yield.accepted p e) (triggered p.rules e) (visited_by contents.parts.rules contents.parts.constraints e)
   unfolding yielded_by Yield.accepted
-  issued_is e =
-      let words : ℕ = visited_by contents.parts.rules contents.parts.constraints e in
-      ap (λ (x : Effects). actions_of x.actions (kept_by contents.parts.constraints e.readings x.actions) x.events words) (does.rules (all_events e.events) e.readings)
-      ∙ ap (λ (s : ActionSet). actions_of (proposed p.rules e) s (triggered p.rules e) words) (kept_is e.readings (proposed p.rules e))
+  issued_is e = cc (does.rules (all_events e.events) e.readings, kept_is e.readings (proposed p.rules e))
 
   -- an event that is named, and that the image reserves
   pub names_is : (e : Epoch) → meets (reserved_in contents) e.events ≡ names_reserved p.rules e
@@ -65,9 +59,7 @@ module _ (image : List ℕ) (contents : Contents) (p : Policy) (does : Implement
 
   clash_is : (e : Epoch) (kept : ℕ) → clash_by contents.parts.rules contents.parts.constraints e kept ≡ clashes p e (set_of kept)
   unfolding clashes
-  clash_is e kept =
-      does.constraints e.readings (proposed_with_by contents.parts.rules e (set_of kept))
-      ∙ ap (λ (x : Effects). conflict p.constraints e.readings x.actions) (does.rules (keeping e.events (set_of kept)) e.readings)
+  clash_is e kept = cc (does.constraints e.readings (proposed_with_by contents.parts.rules e (set_of kept)), does.rules (keeping e.events (set_of kept)) e.readings)
 
   pub kept_events_are : (e : Epoch) → kept_events_by contents.parts.rules contents.parts.constraints e ≡ kept_events p e
   unfolding kept_events_by kept_events
@@ -75,9 +67,7 @@ module _ (image : List ℕ) (contents : Contents) (p : Policy) (does : Implement
 
   reduced_is : (e : Epoch) → reduced_by contents.parts.rules contents.parts.constraints e ≡ actions_of (proposed p.rules e) (issued p e) (kept_triggers p e) (tried_event_words contents.parts.rules contents.parts.constraints e)
   unfolding reduced_by issued kept_triggers
-  reduced_is e =
-      ap₂ (λ (all kept : Effects). actions_of all.actions kept.actions kept.events (tried_event_words contents.parts.rules contents.parts.constraints e)) (does.rules (all_events e.events) e.readings)
-      (ap (λ (kept : EventSet). run_rules (keeping e.events kept) e.readings contents.parts.rules) (kept_events_are e) ∙ does.rules (keeping e.events (kept_events p e)) e.readings)
+  reduced_is e = cc (does.rules (all_events e.events) e.readings, kept_events_are e, does.rules (keeping e.events (kept_events p e)) e.readings)
 
   pub events_decided_are : (pending : EventSet) (line : List ℕ) (e : Epoch) → read_epoch line ≡ Ok e → names_reserved p.rules e ≡ false
       → decision_in Mode.Events image pending line

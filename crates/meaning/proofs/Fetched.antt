@@ -6,7 +6,7 @@ use Rattle.policy.proofs.ValidLaws.{valid_out}
 use Rattle.policy.specs.declared.epoch.Readings.{Readings}
 use Rattle.policy.specs.Limits.{valid, ending_in_range}
 use Rattle.policy.specs.Line.{PolicyLine, rule, constraint, heads_of, comparisons_of, ending_of}
-use Rattle.policy.specs.List.{all}
+use Rattle.std.specs.List.{list_all}
 use Rattle.policy.specs.declared.comparison.Comparison.{Comparison}
 use Rattle.policy.specs.declared.line.Ending.{Ending}
 use Rattle.policy.specs.declared.line.Test.{Test}
@@ -31,8 +31,7 @@ last_append (w ∷ ws) vs h = last_behind w (ws ++ vs) (omega (arith, length-app
 
 last_both : (ws vs : List ℕ) → last_constants ws ≡ 0 → last_constants vs ≡ 0 → last_constants (ws ++ vs) ≡ 0
 last_both [] vs p q = q
-last_both (w ∷ []) [] p q = p
-last_both (w ∷ []) (v ∷ vs) p q = q
+last_both (w ∷ []) vs p q = grind arith
 last_both (w ∷ x ∷ ws) vs p q = last_both (x ∷ ws) vs p q
 
 ending_constants : (e : Ending) → ending_in_range e ≡ true → constants_of (says (ending_word e) 0) ≡ 0
@@ -52,11 +51,11 @@ module _ (e : Ending) (h : ending_in_range e ≡ true) where
   part_last (t ∷ ts) cs =
       last_behind (test_word t (length (part_words ts cs e))) (part_words ts cs e) (omega (arith, part_length ts cs e, (condition_size_limit cs).0)) ∙ part_last ts cs
 
-lines_last : (ls : List PolicyLine) → all valid ls ≡ true → last_constants (lines_words ls) ≡ 0
+lines_last : (ls : List PolicyLine) → list_all valid ls ≡ true → last_constants (lines_words ls) ≡ 0
 unfolding lines_words line_words
 lines_last [] v = refl
 lines_last (l ∷ ls) v =
-    let p = and_out (valid l) (all valid ls) v in
+    let p = and_out (valid l) (list_all valid ls) v in
     last_both (line_words l) (lines_words ls) (part_last (ending_of l) (valid_out l p.0).ending (heads_of l) (comparisons_of l)) (lines_last ls p.1)
 
 -- ---- the parts of a taken image

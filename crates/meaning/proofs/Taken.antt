@@ -1,9 +1,8 @@
 -- What the words of an image do is what a policy yields: of the image that was written for it, and of one that the loader took by the policy that it holds.
-use Rattle.std.proofs.Common.{ℕ, Bool, true, false, cond, List, ◌≡◌, refl, sym, ap, ◌∙◌, Ok}
-use Rattle.std.proofs.Math.Dec.{leb}
-use Rattle.policy.specs.Limits.{trigger_form, Acceptable}
+use Rattle.std.proofs.Common.{ℕ, true, List, ◌≡◌, refl, ap, ◌∙◌, arith, Ok}
+use Rattle.policy.specs.Limits.{Acceptable}
 use Rattle.policy.specs.Policy.{Policy}
-use Rattle.policy.specs.Set.{ActionSet, no_events}
+use Rattle.policy.specs.Set.{ActionSet}
 use Rattle.policy.specs.declared.epoch.Readings.{Readings}
 use Rattle.policy.specs.declared.set.Events.{Events}
 use Rattle.pdl.specs.Yield.{effects, reserved, conflict}
@@ -14,7 +13,7 @@ use Rattle.image.specs.Held.{policy_in}
 use Rattle.image.specs.Load.{Contents, load}
 use Rattle.exactness.proofs.Exact.{image_taken, took, held_acceptable, taken_rules, taken_constraints}
 use Rattle.exactness.specs.Exact.{contents_of}
-use Rattle.run.specs.Run.{run_rules, run_constraints, reserved_by}
+use Rattle.run.specs.Run.{run_rules, run_constraints}
 use Rattle.monitor.specs.Decision.{reserved_in}
 use Rattle.meaning.proofs.Meaning.{rules_run, reserved_run, constraints_run}
 
@@ -29,11 +28,9 @@ pub record Implements (image : List ℕ) (contents : Contents) (p : Policy) : Ty
 -- what its words reserve, by its form
 reserved_is : (contents : Contents) (p : Policy) → Acceptable contents.form p → contents.parts.rules ≡ rule_part_words p → reserved_in contents ≡ reserved p.rules
 unfolding reserved_in
-reserved_is contents p ok same = go (leb trigger_form contents.form) refl
-  where
-    go : (b : Bool) → leb trigger_form contents.form ≡ b → cond b (reserved_by contents.parts.rules) no_events ≡ reserved p.rules
-    go true h = ap reserved_by same ∙ reserved_run p ok.rules_valid
-    go false h = sym (none_reserved contents.form h p.rules ok.rules_allowed)
+reserved_is contents p ok same =
+    let named = reserved_run p ok.rules_valid in
+    grind (arith, none_reserved, ok.rules_allowed)
 
 -- what was written for a policy
 pub written_implements : (form : ℕ) → known_form form ≡ true → (p : Policy) → Acceptable form p → Implements (image_of form p) (contents_of form p) p

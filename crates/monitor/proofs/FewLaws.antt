@@ -1,21 +1,14 @@
 -- How many words trials and decisions fetch at the most, where an image has fewer than 4,096 words in each part.
-use Rattle.std.proofs.Common.{ℕ, ◌*◌, ◌≤◌, ◌<◌, Bool, true, false, cond, List, ◌≡◌, refl, arith, length, Result, Ok, Err}
+use Rattle.std.proofs.Common.{ℕ, ◌*◌, ◌≤◌, ◌<◌, List, arith, length}
 use Rattle.policy.specs.declared.epoch.Epoch.{Epoch}
 use Rattle.policy.specs.declared.epoch.Readings.{Readings}
-use Rattle.policy.specs.Fault.{refusal}
-use Rattle.policy.specs.Set.{ActionSet, EventSet, meets, all_events, keeping, set_of}
-use Rattle.policy.specs.declared.fault.Fault.{Fault}
+use Rattle.policy.specs.Set.{ActionSet, EventSet, all_events, set_of}
 use Rattle.policy.specs.declared.mode.Mode.{Mode}
-use Rattle.policy.specs.declared.set.Events.{Events}
 use Rattle.pdl.proofs.CostLaws.{trials_limit}
-use Rattle.pdl.specs.Yield.{with_pending}
-use Rattle.epoch_line.specs.Epoch.{read_epoch}
-use Rattle.image.specs.Load.{Contents, load}
+use Rattle.image.specs.Load.{Contents}
 use Rattle.run.proofs.FetchLaws.{rule_fetches_few, trial_fetches_few}
-use Rattle.run.specs.Run.{run_rules}
 use Rattle.image.proofs.HeldLaws.{taken_small}
-use Rattle.policy.specs.declared.fault.Refusal.{Refusal}
-use Rattle.monitor.specs.Decision.{proposed_by, conflict_by, trial_words, tried_words, clash_by, clash_words, tried_event_words, yielded_by, reduced_by, reduction_by, decided_by, reserved_in, on_image, decision_in, visited_in}
+use Rattle.monitor.specs.Decision.{proposed_by, conflict_by, trial_words, tried_words, clash_by, clash_words, tried_event_words, yielded_by, reduced_by, reduction_by, decided_by, on_image, decision_in, visited_in}
 
 module _ (constraints : List ℕ) (few : length constraints < 8192) (rs : Readings) where
   pub trial_few : (s : ℕ) → trial_words constraints rs s ≤ 8192
@@ -27,9 +20,7 @@ module _ (constraints : List ℕ) (few : length constraints < 8192) (rs : Readin
 
 module _ (rules constraints : List ℕ) (p : length rules < 4096) (n : length constraints < 4096) (e : Epoch) where
   pub clash_few : (kept : ℕ) → clash_words rules constraints e kept ≤ 8192
-  clash_few kept =
-      let ev : Events = keeping e.events (set_of kept) in
-      omega (arith, rule_fetches_few e.readings rules ev, trial_fetches_few e.readings constraints (run_rules ev e.readings rules).actions)
+  clash_few kept = grind (arith, rule_fetches_few, trial_fetches_few)
 
   yielded_few : (yielded_by rules constraints e).visited ≤ 65 * 8192
   unfolding yielded_by
@@ -37,29 +28,16 @@ module _ (rules constraints : List ℕ) (p : length rules < 4096) (n : length co
 
   reduced_few : visited_in (reduction_by rules constraints e) ≤ 65 * 8192
   unfolding reduction_by reduced_by tried_event_words
-  reduced_few = go (clash_by rules constraints e 0)
-    where
-      go : (b : Bool) → visited_in (cond b (Err (refusal Fault.Unavoidable 0)) (Ok (reduced_by rules constraints e))) ≤ 65 * 8192
-      go true = omega arith
-      go false = omega (arith, clash_few 0, trials_limit (clash_by rules constraints e) (clash_words rules constraints e) e.events.bits 8192 clash_few)
+  reduced_few = grind (arith, clash_few 0, trials_limit (clash_by rules constraints e) (clash_words rules constraints e) e.events.bits 8192 clash_few)
 
 -- ---- the words of an image
 
+decided_few : (mode : Mode) (contents : Contents) (e : Epoch) → (length contents.parts.rules < 4096) × (length contents.parts.constraints < 4096) → visited_in (decided_by mode contents e) ≤ 65 * 8192
+unfolding decided_by
+decided_few Mode.Actions contents e small = yielded_few contents.parts.rules contents.parts.constraints small.0 small.1 e
+decided_few Mode.Events contents e small = reduced_few contents.parts.rules contents.parts.constraints small.0 small.1 e
+
 -- the words that a decision fetches are a number of 64 bits
 pub visited_few : (mode : Mode) (image : List ℕ) (pending : EventSet) (line : List ℕ) → visited_in (decision_in mode image pending line) ≤ 65 * 8192
-unfolding decision_in on_image decided_by
-visited_few mode image pending line = go (load image) refl (read_epoch line)
-  where
-    decided : (contents : Contents) (e : Epoch) (m : Mode) → (length contents.parts.rules < 4096) × (length contents.parts.constraints < 4096) → visited_in (decided_by m contents e) ≤ 65 * 8192
-    decided contents e Mode.Actions small = yielded_few contents.parts.rules contents.parts.constraints small.0 small.1 e
-    decided contents e Mode.Events small = reduced_few contents.parts.rules contents.parts.constraints small.0 small.1 e
-
-    unreserved : (b : Bool) (contents : Contents) (e : Epoch) → (length contents.parts.rules < 4096) × (length contents.parts.constraints < 4096)
-        → visited_in (cond b (Err (refusal Fault.ReservedEvent 0)) (decided_by mode contents e)) ≤ 65 * 8192
-    unreserved true contents e small = omega arith
-    unreserved false contents e small = decided contents e mode small
-
-    go : (l : Result Contents Refusal) → load image ≡ l → (a : Result Epoch Refusal) → visited_in (on_image mode pending l a) ≤ 65 * 8192
-    go (Err r) q a = omega arith
-    go (Ok contents) q (Err r) = omega arith
-    go (Ok contents) q (Ok e) = unreserved (meets (reserved_in contents) e.events) contents (with_pending pending e) (taken_small image contents q)
+unfolding decision_in on_image
+visited_few mode image pending line = grind (arith, decided_few, taken_small image)

@@ -53,7 +53,7 @@ pub(crate) fn resolve(constraints: &[[u8; 4]], proposed: ActionSet, readings: &R
 }
 
 // The words of an image, run on an epoch.
-#[tactic(auto, using(crate::proofs::DecideLaws::issues))]
+#[tactic(auto, unfolding(crate::specs::Decision::yielded_by))]
 pub(crate) fn issue(image: &Image<'_>, epoch: &Epoch) -> Actions
     ensures { result ≡ yielded_by (words_in image.now.parts.rules.now) (words_in image.now.parts.constraints.now) epoch.now }
 {

@@ -87,6 +87,7 @@ fn propose_all(image: &Image<'_>, kept: KeptEvents, epoch: &Epoch) -> ActionSet
 }
 
 // The words of the rules and of the constraints of an image that the loader took, run on an epoch. It is refused where a constraint holds already with no event.
+#[tactic(auto, unfolding(crate::specs::Decision::reduction_by, crate::specs::Decision::reduced_by))]
 pub(crate) fn issue_events(image: &Image<'_>, epoch: &Epoch) -> Result<Actions, Refusal>
     ensures { result ≡ reduction_by (words_in image.now.parts.rules.now) (words_in image.now.parts.constraints.now) epoch.now }
 {

@@ -1,9 +1,8 @@
 -- What words say: the words of the parts of a line say these parts, and what a word says is told by its operation.
-use Rattle.std.proofs.Common.{ℕ, ◌<◌, Bool, true, false, cond, ◌≡◌, refl, sym, ap, ◌∙◌, ltb-true, lt-ltb, arith}
+use Rattle.std.proofs.Common.{ℕ, ◌<◌, true, false, ◌≡◌, refl, ap, ◌∙◌, lt-ltb, arith}
 use Rattle.policy.specs.Effect.{effect_number}
 use Rattle.policy.specs.Limits.{test_number, effect_in_range, ending_in_range}
 use Rattle.policy.specs.declared.comparison.Comparison.{Comparison}
-use Rattle.policy.specs.declared.comparison.Literal.{Literal}
 use Rattle.policy.specs.declared.effect.Effect.{Effect}
 use Rattle.policy.specs.declared.line.Ending.{Ending}
 use Rattle.policy.specs.declared.line.Test.{Test}
@@ -12,7 +11,7 @@ use Rattle.operation.specs.Parts.{test_operation, test_word, effect_operation, e
 use Rattle.operation.specs.Said.{says_by, says, constants_of}
 use Rattle.operation.specs.declared.operation.Operation.{Operation}
 use Rattle.operation.specs.declared.said.LinePart.{LinePart}
-use Rattle.operation.proofs.PartsLaws.{test_operation_is, test_first, effect_operation_is, effect_first, never_operation}
+use Rattle.operation.proofs.PartsLaws.{test_packed, ending_number, ending_operation, ending_packed}
 
 pub said_by : (w k : ℕ) (o : Operation) → operation_of w ≡ o → says w k ≡ says_by o w k
 unfolding says
@@ -20,44 +19,29 @@ said_by w k o e = ap (λ (x : Operation). says_by x w k) e
 
 -- ---- the words of the parts of a line
 
-pub test_said : (t : Test) (skip k : ℕ) → test_number t < 64 → skip < 32 → says (test_word t skip) k ≡ LinePart.Head t
+test_says : (t : Test) (w k : ℕ) → first_of w ≡ test_number t → says_by (test_operation t) w k ≡ LinePart.Head t
 unfolding says_by test_operation test_number
-test_said (Test.Occurs l) skip k h b = said_by w k (cond l.negated Operation.Absent Operation.Present) (test_operation_is (Test.Occurs l) skip h b) ∙ go l.negated refl
-  where
-    w : ℕ
-    w = test_word (Test.Occurs l) skip
+test_says t w k f = grind arith
 
-    made : (n : Bool) → l.negated ≡ n → record { event = event_from w; negated = n } ≡ l
-    made n q = λ i. record { event = record { 0 = test_first (Test.Occurs l) skip h b i }; negated = sym q i }
+pub test_said : (t : Test) (skip k : ℕ) → test_number t < 64 → skip < 32 → says (test_word t skip) k ≡ LinePart.Head t
+test_said t skip k h b = let p = test_packed t skip h b in said_by (test_word t skip) k (test_operation t) p.operation ∙ test_says t (test_word t skip) k p.first_is
 
-    go : (n : Bool) → l.negated ≡ n → says_by (cond n Operation.Absent Operation.Present) w k ≡ LinePart.Head (Test.Occurs l)
-    go true q = ap (λ (x : Literal). LinePart.Head (Test.Occurs x)) (made true q)
-    go false q = ap (λ (x : Literal). LinePart.Head (Test.Occurs x)) (made false q)
-test_said (Test.Member a) skip k h b =
-    said_by (test_word (Test.Member a) skip) k Operation.Member (test_operation_is (Test.Member a) skip h b)
-    ∙ (λ i. LinePart.Head (Test.Member (record { 0 = test_first (Test.Member a) skip h b i })))
+ending_says : (e : Ending) (w k : ℕ) → first_of w ≡ ending_number e → says_by (ending_operation e) w k ≡ LinePart.Ending e
+unfolding says_by effect_operation effect_number
+ending_says e w k f = grind arith
 
 pub ending_said : (e : Ending) (k : ℕ) → ending_in_range e ≡ true → says (ending_word e) k ≡ LinePart.Ending e
-unfolding says_by ending_in_range effect_in_range effect_operation effect_number
-ending_said (Ending.Yields (Effect.Causes a)) k h =
-    let x : Effect = Effect.Causes a in
-    let n : a.0 < 64 = ltb-true a.0 64 h in
-    said_by (ending_word (Ending.Yields x)) k Operation.Proposes (effect_operation_is x n) ∙ ap (λ (n : ℕ). LinePart.Ending (Ending.Yields (Effect.Causes (record { 0 = n })))) (effect_first x n)
-ending_said (Ending.Yields (Effect.Triggers y)) k h =
-    let x : Effect = Effect.Triggers y in
-    let n : y.0 < 64 = ltb-true y.0 64 h in
-    said_by (ending_word (Ending.Yields x)) k Operation.Triggers (effect_operation_is x n) ∙ ap (λ (n : ℕ). LinePart.Ending (Ending.Yields (Effect.Triggers (record { 0 = n })))) (effect_first x n)
-ending_said Ending.Never k h = said_by (ending_word Ending.Never) k Operation.Never never_operation
+ending_said e k h = let p = ending_packed e h in said_by (ending_word e) k (ending_operation e) p.operation ∙ ending_says e (ending_word e) k p.first_is
 
 -- a comparison with a constant, which is the word behind, and one with a reading
 module _ (c : Comparison) (w k : ℕ) where
   pub constant_said : operation_of w ≡ Operation.AgainstConstant → constant_comparison w k ≡ c → (says w k ≡ LinePart.Comparison c) × (constants_of (LinePart.Comparison c) ≡ 1)
   unfolding says_by constants_of constant_comparison
-  constant_said o b = (said_by w k Operation.AgainstConstant o ∙ ap LinePart.Comparison b, sym (ap (λ (x : Comparison). constants_of (LinePart.Comparison x)) b))
+  constant_said o b = rw (← b) (said_by w k Operation.AgainstConstant o, refl)
 
   pub reading_said : operation_of w ≡ Operation.AgainstReading → reading_comparison w ≡ c → (says w k ≡ LinePart.Comparison c) × (constants_of (LinePart.Comparison c) ≡ 0)
   unfolding says_by constants_of reading_comparison
-  reading_said o b = (said_by w k Operation.AgainstReading o ∙ ap LinePart.Comparison b, sym (ap (λ (x : Comparison). constants_of (LinePart.Comparison x)) b))
+  reading_said o b = rw (← b) (said_by w k Operation.AgainstReading o, refl)
 
 -- ---- the cases of what a word says
 

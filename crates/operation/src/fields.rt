@@ -19,6 +19,7 @@ pub fn first(word: u32) -> u32
 
 /// The first number of a word of that operation; 64 or more for any other word. One subtraction tells both: it leaves the number in the
 /// highest bits.
+#[tactic(auto, using(crate::proofs::OperationLaws::operation_number, crate::proofs::OperationLaws::opcode_below, crate::proofs::OperationLaws::operation_back))]
 pub fn first_if(word: u32, operation: Operation) -> u32
     requires { 0 < opcode operation }
     ensures first { operation_of word ≡ operation → result ≡ first_of word }

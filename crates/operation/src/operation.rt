@@ -30,7 +30,7 @@ pub enum Operation {
 
 impl Operation {
     /// The operation of a word.
-    #[tactic(auto, unfolding(crate::specs::Operation::operation_from))]
+    #[tactic(auto, using(crate::proofs::OperationLaws::operation_other), unfolding(crate::specs::Operation::operation_from))]
     pub fn of(word: u32) -> Operation
         ensures { result ≡ operation_of word }
     {
@@ -92,6 +92,7 @@ fn relation_code(relation: Relation) -> u32
     }
 }
 
+#[tactic(auto, unfolding(crate::specs::Fields::pack))]
 fn pack_word(operation: Operation, first: u8, second: u8, relation: u32, skip: u8) -> u32
     requires { relation < 8 }
     ensures { result ≡ pack operation first second relation skip }
@@ -104,6 +105,7 @@ fn pack_word(operation: Operation, first: u8, second: u8, relation: u32, skip: u
 }
 
 /// The word of a head.
+#[tactic(auto, unfolding(crate::specs::Parts::test_word, crate::specs::Parts::test_operation, policy::specs::Limits::test_number))]
 pub fn test_word(test: Test, skip: u8) -> u32
     ensures { result ≡ test_word test skip }
 {
@@ -120,6 +122,7 @@ pub fn test_word(test: Test, skip: u8) -> u32
 }
 
 /// The first word of a comparison; a constant stands in a second one.
+#[tactic(auto, unfolding(crate::specs::Parts::comparison_word, crate::specs::Parts::operand_word))]
 pub fn comparison_word(comparison: Comparison, skip: u8) -> u32
     ensures { result ≡ comparison_word comparison skip }
 {
@@ -151,6 +154,7 @@ pub fn ending_word(ending: Ending) -> u32
 }
 
 /// A comparison with a constant, from its word and the constant word behind it.
+#[tactic(auto, unfolding(crate::specs::Parts::constant_comparison))]
 pub fn constant_comparison(word: u32, constant: u32) -> Comparison
     ensures { result ≡ constant_comparison word constant }
 {
@@ -162,6 +166,7 @@ pub fn constant_comparison(word: u32, constant: u32) -> Comparison
 }
 
 /// A comparison with a reading.
+#[tactic(auto, unfolding(crate::specs::Parts::reading_comparison))]
 pub fn reading_comparison(word: u32) -> Comparison
     ensures { result ≡ reading_comparison word }
 {
@@ -202,6 +207,7 @@ fn relation_holds(word: u32, left: i32, right: i32) -> bool
 
 // The value of the reading with that number; none where the epoch does not give it. The set is cut down to the readings that there are
 // first, which a loop does but once; then no index needs a test. The number goes from its word to the index without a byte between.
+#[tactic(auto, using(crate::proofs::HoldsLaws::known_below, crate::proofs::HoldsLaws::known_not, crate::proofs::HoldsLaws::value_at, std::proofs::lemmas::Option::slice_get_past), unfolding(policy::specs::Epoch::reading_value))]
 fn value(number: usize, readings: ReadingView<'_>) -> Option<i32>
     requires { number < 64 }
     ensures { result ≡ reading_value (viewed readings.entry) (record { 0 = number }) }
@@ -219,6 +225,7 @@ fn value(number: usize, readings: ReadingView<'_>) -> Option<i32>
 
 /// Whether a comparison with a constant, by its word, the number of its reading and the constant word, holds on the readings of an epoch
 /// in a line of the part.
+#[tactic(auto, unfolding(policy::specs::Comparison::comparison_holds, policy::specs::Comparison::values_relate, policy::specs::Comparison::operand_value, crate::specs::Parts::constant_comparison))]
 pub fn constant_holds(
     part: Part,
     word: u32,
@@ -236,6 +243,7 @@ pub fn constant_holds(
 }
 
 /// The same for a comparison with a reading.
+#[tactic(auto, unfolding(policy::specs::Comparison::comparison_holds, policy::specs::Comparison::values_relate, policy::specs::Comparison::operand_value, crate::specs::Parts::reading_comparison))]
 pub fn reading_holds(part: Part, word: u32, readings: ReadingView<'_>) -> bool
     ensures { result ≡ comparison_holds part (viewed readings.entry) (reading_comparison word) }
 {

@@ -1,47 +1,36 @@
 -- Laws of decimal digits: those of a number are those of its tenth and one more; their value is the number; how many there are.
-use Rattle.std.proofs.Math.Dec.{ltb}
-use Rattle.std.proofs.Math.ListN.{get_or}
 use Prim.Native.Char.{code}
-use Rattle.std.proofs.Common.{ℤ, pos, negsuc, FitsSigned, w32, ℕ, zero, suc, ◌+◌, ◌*◌, ◌/◌, ◌%◌, ◌^◌, ◌≤◌, ◌<◌, Bool, true, false, List, [], ◌∷◌, ◌++◌, ◌≡◌, refl, sym, ap, ◌∙◌, arith, lt-ltb, le-ltb, ltb-true, ltb-false, length, length-append, fold}
+use Rattle.std.proofs.Common.{ℤ, pos, negsuc, FitsSigned, w32, ℕ, zero, suc, ◌+◌, ◌*◌, ◌/◌, ◌%◌, ◌^◌, ◌≤◌, ◌<◌, Bool, true, false, List, [], ◌∷◌, ◌++◌, ◌≡◌, refl, sym, ap, ◌∙◌, arith, ltb-true, ltb-false, length, length-append, fold, ltb, get_or}
 use Rattle.std.specs.Fmt
+use Rattle.std.proofs.lemmas.Bool.{cases_lt}
 use Rattle.std.proofs.lemmas.Fmt.{decimal_by_steps}
 use Rattle.output.specs.Number.{digit, digits, decimal, integer, value_in_base, digit_value}
 
 digits_one : (k n : ℕ) → n < 10 → digits k (ltb n 10) n ≡ digit n ∷ []
 unfolding digits
-digits_one zero n h = refl
-digits_one (suc k) n h = rw (lt-ltb n 10 h)
+digits_one k n h = grind arith
 
 digits_more : (k n : ℕ) → 10 ≤ n → digits (suc k) (ltb n 10) n ≡ digits k (ltb (n / 10) 10) (n / 10) ++ digit (n % 10) ∷ []
 unfolding digits
-digits_more k n h = rw (le-ltb n 10 h)
+digits_more k n h = grind arith
 
 -- enough is enough
 digits_enough : (k j n : ℕ) → n ≤ k → n ≤ j → digits k (ltb n 10) n ≡ digits j (ltb n 10) n
 digits_enough zero j n h l = digits_one zero n (omega arith) ∙ sym (digits_one j n (omega arith))
 digits_enough (suc k) zero n h l = digits_one (suc k) n (omega arith) ∙ sym (digits_one zero n (omega arith))
-digits_enough (suc k) (suc j) n h l = go (ltb n 10) refl (digits_enough k j (n / 10))
-  where
-    go : (b : Bool) → ltb n 10 ≡ b → (n / 10 ≤ k → n / 10 ≤ j → digits k (ltb (n / 10) 10) (n / 10) ≡ digits j (ltb (n / 10) 10) (n / 10))
-        → digits (suc k) (ltb n 10) n ≡ digits (suc j) (ltb n 10) n
-    go true e f = digits_one (suc k) n (ltb-true n 10 e) ∙ sym (digits_one (suc j) n (ltb-true n 10 e))
-    go false e f =
-        let m : 10 ≤ n = ltb-false n 10 e in
-        digits_more k n m ∙ ap (λ (ds : List ℕ). ds ++ digit (n % 10) ∷ []) (f (omega arith) (omega arith)) ∙ sym (digits_more j n m)
+digits_enough (suc k) (suc j) n h l = grind (arith, cases_lt n 10, digits_one (suc k) n, digits_one (suc j) n, digits_more k n, digits_more j n, digits_enough k j (n / 10))
 
 pub decimal_one : (n : ℕ) → n < 10 → decimal n ≡ digit n ∷ []
 unfolding decimal
-decimal_one n h = digits_one n n h
+decimal_one n h = grind (arith, digits_one)
 
 pub decimal_more : (n : ℕ) → 10 ≤ n → decimal n ≡ decimal (n / 10) ++ digit (n % 10) ∷ []
 unfolding decimal
-decimal_more zero h = absurd (omega arith)
-decimal_more (suc m) h =
-    digits_more m (suc m) h
-    ∙ ap (λ (ds : List ℕ). ds ++ digit (suc m % 10) ∷ []) (digits_enough m (suc m / 10) (suc m / 10) (omega arith) (omega arith))
+decimal_more zero h = grind arith
+decimal_more (suc m) h = grind (arith, digits_more, digits_enough)
 
 pub decimal_two : (n : ℕ) → 10 ≤ n → n < 100 → decimal n ≡ digit (n / 10) ∷ digit (n % 10) ∷ []
-decimal_two n h k = decimal_more n h ∙ ap (λ (ds : List ℕ). ds ++ digit (n % 10) ∷ []) (decimal_one (n / 10) (omega arith))
+decimal_two n h k = grind (arith, decimal_more, decimal_one)
 
 -- what holds of a number with one digit, and of a number by what holds of its tenth, holds of every number
 module _ (P : ℕ → List ℕ → Type 0) (one : (n : ℕ) → n < 10 → P n (digit n ∷ []))
@@ -59,14 +48,14 @@ module _ (P : ℕ → List ℕ → Type 0) (one : (n : ℕ) → n < 10 → P n (
 
   pub decimal_by : (n : ℕ) → P n (decimal n)
   unfolding decimal
-  decimal_by n = digits_by n n (omega arith)
+  decimal_by n = grind (arith, digits_by)
 
 -- ---- the digits are those of the number
 
 value_snoc : (v : ℕ) (ds : List ℕ) (d : ℕ)
     → fold (λ (x e : ℕ). x * 10 + digit_value e) v (ds ++ d ∷ []) ≡ fold (λ (x e : ℕ). x * 10 + digit_value e) v ds * 10 + digit_value d
 value_snoc v [] d = refl
-value_snoc v (e ∷ ds) d = value_snoc (v * 10 + digit_value e) ds d
+value_snoc v (e ∷ ds) d = grind (arith, value_snoc (v * 10 + digit_value e) ds d)
 
 pub decimal_value : (n : ℕ) → value_in_base 10 digit_value (decimal n) ≡ n
 decimal_value =
@@ -102,5 +91,5 @@ decimal_same = decimal_by_steps (λ n ds. ds ≡ decimal n) (λ n h. sym (decima
     longer n ds h e = ap (λ (xs : List ℕ). xs ++ (48 + n % 10) ∷ []) e ∙ sym (decimal_more n h)
 
 pub integer_same : (k : ℤ) → FitsSigned w32 k → Fmt.signed_decimal k ≡ integer k
-integer_same (pos n) h = let f = h.sfits in decimal_same n (omega arith)
-integer_same (negsuc n) h = let f = h.sfits in ap (λ (ds : List ℕ). 45 ∷ ds) (decimal_same (suc n) (omega arith))
+integer_same (pos n) h = grind (arith, decimal_same)
+integer_same (negsuc n) h = grind (arith, decimal_same)

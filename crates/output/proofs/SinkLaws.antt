@@ -1,5 +1,5 @@
 -- What the sinks are after some bytes.
-use Rattle.std.proofs.Common.{◌≡◌, ℕ, suc, ◌+◌, ◌-◌, ◌^◌, ◌≤◌, ◌<◌, List, [], ◌∷◌, ◌++◌, length, get_or, set, drop, refl, sym, ap, ap₂, ◌∙◌, arith, length-set, drop-cons, drop_of_length-le}
+use Rattle.std.proofs.Common.{◌≡◌, ℕ, suc, ◌+◌, ◌-◌, ◌^◌, ◌≤◌, ◌<◌, List, [], ◌∷◌, ◌++◌, length, get_or, set, drop, ap, ◌∙◌, arith, length-set, drop-cons, drop_of_length-le}
 use Rattle.output.specs.Buffer.{appended, behind}
 use Rattle.output.specs.Sink.{fed, fed-join, advanced, counted, stored}
 use Rattle.output.specs.declared.counter.Counter.{Counter}
@@ -7,14 +7,13 @@ use Rattle.output.specs.declared.page.Page.{Page}
 use Rattle.output.proofs.AppendLaws.{Put, append_out}
 
 advanced-suc : (from by limit : ℕ) → advanced (advanced from 1 limit) by limit ≡ advanced from (suc by) limit
-advanced-suc from by limit = omega arith
+advanced-suc from by limit = grind arith
 
 -- a counter has counted the bytes
 pub counted_all : (counter : Counter) (bytes : List ℕ) → fed counted counter bytes ≡ record { count = advanced counter.count (length bytes) (2 ^ 64 - 1) }
 unfolding fed
-counted_all counter [] = ap (λ (n : ℕ). record { count = n }) (omega arith)
-counted_all counter (b ∷ bs) =
-    counted_all (counted counter b) bs ∙ ap (λ (n : ℕ). record { count = n }) (advanced-suc counter.count (length bs) (2 ^ 64 - 1))
+counted_all counter [] = grind arith
+counted_all counter (b ∷ bs) = grind (arith, advanced-suc, counted_all (counted counter b) bs)
 
 -- ---- a page
 
@@ -23,51 +22,39 @@ page_of page buffer end = record page { bytes = record page.bytes { now = buffer
 
 -- a page past its end takes nothing, so it doesn't matter how far past
 append-advanced : (buffer : List ℕ) (at : ℕ) (bytes : List ℕ) → appended buffer (advanced at 1 (length buffer)) bytes ≡ appended buffer (suc at) bytes
-append-advanced buffer at bytes = grind (arith, append_out buffer (advanced at 1 (length buffer)) bytes, append_out buffer (suc at) bytes)
+append-advanced buffer at bytes = grind (arith, append_out)
 
 -- a page has the bytes appended to it
 pub stored_all : (page : Page) (bytes : List ℕ)
     → fed stored page bytes ≡ page_of page (appended page.bytes.now page.end bytes) (advanced page.end (length bytes) (length page.bytes.now))
 unfolding fed appended
-stored_all page [] = ap (λ (n : ℕ). record page { end = n }) (omega arith)
-stored_all page (b ∷ bs) =
-    let same : length (set page.bytes.now page.end b) ≡ length page.bytes.now = length-set page.bytes.now page.end b in
-    stored_all (stored page b) bs
-    ∙ ap₂ (page_of page)
-    (ap (λ (n : ℕ). appended (set page.bytes.now page.end b) (advanced page.end 1 n) bs) (sym same) ∙ append-advanced (set page.bytes.now page.end b) page.end bs)
-    (ap (advanced (advanced page.end 1 (length page.bytes.now)) (length bs)) same ∙ advanced-suc page.end (length bs) (length page.bytes.now))
+stored_all page [] = grind arith
+stored_all page (b ∷ bs) = grind (arith, length-set, append-advanced, advanced-suc, stored_all (stored page b) bs)
 
 -- the buffer of a page and where it ends, once bytes were put on it
 pub page_put : (page after : Page) (bytes : List ℕ) → after ≡ fed stored page bytes → page.end ≤ length page.bytes.now → Put page.bytes.now page.end bytes after.bytes.now after.end
 unfolding behind
-page_put page after bytes e h =
-    let all : after ≡ page_of page (appended page.bytes.now page.end bytes) (advanced page.end (length bytes) (length page.bytes.now)) = e ∙ stored_all page bytes in
-    (ap (λ (p : Page). p.end) all ∙ omega arith, ap (λ (p : Page). p.bytes.now) all)
+page_put page after bytes e h = grind (arith, stored_all)
 
 -- ---- the loop of a page
 
 pub step_room : (out bytes : List ℕ) (end i : ℕ) → i < length bytes
     → appended (set out end (get_or bytes i 0)) (end + 1) (drop (i + 1) bytes) ≡ appended out end (drop i bytes)
 unfolding appended
-step_room out bytes end i h =
-    let e : end + 1 ≡ suc end = omega arith in
-    let f : i + 1 ≡ suc i = omega arith in
-    rw (drop-cons bytes i 0 h, e, f)
+step_room out bytes end i h = grind (arith, drop-cons)
 
 pub step_full : (out bytes : List ℕ) (end i : ℕ) → i < length bytes → length out ≤ end → appended out end (drop (i + 1) bytes) ≡ appended out end (drop i bytes)
-step_full out bytes end i h full = append_out out end (drop (i + 1) bytes) full ∙ sym (append_out out end (drop i bytes) full)
+step_full out bytes end i h full = grind (arith, append_out)
 
 append-end : (buffer : List ℕ) (at : ℕ) (rest : List ℕ) → rest ≡ [] → buffer ≡ appended buffer at rest
 unfolding appended
-append-end buffer at [] e = refl
-append-end buffer at (b ∷ bs) e = absurd (omega (arith, ap length e))
+append-end buffer at rest h = grind arith
 
 pub page_end : (page : Page) (bytes out : List ℕ) (end i : ℕ) → length bytes ≤ i
     → appended out end (drop i bytes) ≡ appended page.bytes.now page.end bytes
     → advanced end (length bytes - i) (length out) ≡ advanced page.end (length bytes) (length page.bytes.now)
     → page_of page out end ≡ fed stored page bytes
-page_end page bytes out end i h holds reached =
-    ap₂ (page_of page) (append-end out end (drop i bytes) (drop_of_length-le bytes h) ∙ holds) (omega arith) ∙ sym (stored_all page bytes)
+page_end page bytes out end i h holds reached = grind (arith, append-end, drop_of_length-le, stored_all)
 
 -- ---- any sink
 
@@ -75,8 +62,3 @@ page_end page bytes out end i h holds reached =
 pub fed_then : {S : Type 0} (taken : S → ℕ → S) (sink : S) {between after : S} (first second : List ℕ)
     → between ≡ fed taken sink first → after ≡ fed taken between second → after ≡ fed taken sink (first ++ second)
 fed_then taken sink first second e f = f ∙ ap (λ s. fed taken s second) e ∙ fed-join taken sink first second
-
--- ---- a counter from 0
-
-pub counted_exactly : (after : Counter) (text : List ℕ) → after ≡ fed counted (record { count = 0 }) text → length text < 2 ^ 64 - 1 → after.count ≡ length text
-counted_exactly after text e h = ap (λ (c : Counter). c.count) (e ∙ counted_all (record { count = 0 }) text) ∙ omega arith

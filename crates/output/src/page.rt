@@ -14,6 +14,7 @@ impl<'a> Sink for Page<'a> {
     ghost taken = { stored };
 
     #[inline(always)]
+    #[tactic(auto, using(crate::proofs::SinkLaws::step_room, crate::proofs::SinkLaws::step_full, crate::proofs::SinkLaws::page_end))]
     fn put(&mut self, bytes: &[u8]) {
         let out = &mut *self.bytes;
         let mut end = self.end;

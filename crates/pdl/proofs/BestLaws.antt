@@ -1,5 +1,5 @@
 -- The accepted set precedes every other set of proposed actions on which no constraint holds, and is the only such set that does.
-use Rattle.std.proofs.Common.{List, inl, inr, ap, subst, sym, ⊎_elim, ◌^◌, ◌<◌, ◌↔◌, ◌∙◌, ◌≡◌, ◌⊎◌, true}
+use Rattle.std.proofs.Common.{arith, List, inl, inr, ap, subst, sym, ⊎_elim, ◌^◌, ◌<◌, ◌↔◌, ◌∙◌, ◌≡◌, ◌⊎◌, true}
 use Rattle.policy.specs.declared.epoch.Epoch.{Epoch}
 use Rattle.policy.specs.declared.epoch.Readings.{Readings}
 use Rattle.policy.specs.Policy.{Policy, Constraint}
@@ -29,7 +29,7 @@ module _ (constraints : List Constraint) (rs : Readings) (t : ActionSet) (limit 
         (greedy_differs (bad constraints rs) t.bits (bad_monotone constraints rs) limit u.bits (λ n. within (record { 0 = n })) (no_conflict constraints rs u good))
 
     pub resolve_precedes : ¬ (u ≡ resolve constraints rs t) → Precedes (resolve constraints rs t) u
-    resolve_precedes other = ⊎_elim (λ e. absurd (other e)) (λ d. record { action = d.0; lowest = d.1; holds = resolve_best d.0 d.1 }) resolve_differs
+    resolve_precedes other = grind (arith, resolve_best, resolve_differs)
 
   -- it precedes every other subset that satisfies the constraints, and nothing else does
   pub resolve_is_best : NameActions constraints → (s : ActionSet) → BestIn constraints rs t s ↔ (s ≡ resolve constraints rs t)

@@ -1,7 +1,7 @@
 -- The accepted and the cancelled actions of an epoch: a maximal action cancellation of what the rules propose, lower numbers kept
 -- first (Definitions 11.1 to 11.3 of Chomicki, Lobo and Naqvi, "Conflict Resolution Using Logic Programming", TKDE 2003).
-use Rattle.std.proofs.Common.{true, false, not, ◌&&◌, List, [], Contains, ◌≡◌, sym, ap, ◌∙◌, arith}
-use Rattle.policy.proofs.ListLaws.{not_true_is, not_false_is, and_out, contains_one}
+use Rattle.std.proofs.Common.{◌∷◌, arith, true, false, not, ◌&&◌, List, [], Contains, ◌≡◌, sym, arith}
+use Rattle.policy.proofs.ListLaws.{not_true_is, not_false_is, contains_one}
 use Rattle.pdl.proofs.Others.{has_others, others_apart, with_others, no_others}
 use Rattle.pdl.proofs.Proposals.{proposals_limit}
 use Rattle.pdl.proofs.Resolution.{satisfied, conflict_out, resolve_within, resolve_satisfies, resolve_maximal, resolve_dropped, resolve_kept, resolve_limit}
@@ -26,7 +26,7 @@ module _ (p : Policy) where
 
   has_cancelled : (e : Epoch) (a : Action) → has_action (cancelled p e) a ≡ has_action (proposed p.rules e) a && not (has_action (accepted p e) a)
   unfolding cancelled
-  has_cancelled e a = has_others (proposed p.rules e) (accepted p e) a
+  has_cancelled e a = grind (arith, has_others)
 
   pub accepted_with_cancelled : (e : Epoch) → union_actions (accepted p e) (cancelled p e) ≡ proposed p.rules e
   unfolding cancelled
@@ -63,33 +63,29 @@ module _ (p : Policy) where
 
   pub nothing_cancelled : (e : Epoch) → Satisfies p.constraints e.readings (proposed p.rules e) → cancelled p e ≡ no_actions
   unfolding cancelled
-  nothing_cancelled e h = no_others (proposed p.rules e) (accepted p e) (conservative e h)
+  nothing_cancelled e h = grind (arith, no_others, conservative)
 
   -- ---- trials
 
   -- on the accepted actions under a cancelled one, together with it, some constraint holds
   pub cancelled_trial : (e : Epoch) (a : Action) → has_action (cancelled p e) a ≡ true → Violated p.constraints e.readings (insert_action (actions_below (accepted p e) a) a)
   unfolding accepted
-  cancelled_trial e a h =
-      resolve_dropped p.constraints e.readings (proposed p.rules e) (proposals_limit p.rules (all_events e.events) e.readings) a
-      (and_out (has_action (proposed p.rules e) a) (not (has_action (accepted p e) a)) (sym (has_cancelled e a) ∙ h)).0
-      (cancelled_apart e a h)
+  cancelled_trial e a h = grind (arith, resolve_dropped, proposals_limit, has_cancelled)
 
   -- a constraint with one action, where its condition holds
   module _ (a : Action) (cs : List Comparison) (listed : Contains p.constraints (of_one_action a cs)) (e : Epoch) (holds : Condition Part.Constraints e.readings cs) where
+    tried : has_action (accepted p e) a ≡ true → (b : Action) → Contains (a ∷ []) b → has_action (insert_action (actions_below (accepted p e) a) a) b ≡ true
+    unfolding accepted
+    tried h b k = grind (arith, contains_one a b k, has_insert_same (actions_below (accepted p e) a).bits a.0, resolve_limit p.constraints e.readings (proposed p.rules e) a h)
+
     one_rejected : has_action (accepted p e) a ≡ false
     unfolding accepted
     one_rejected =
         not_true_is (has_action (accepted p e) a)
-        (λ h. resolve_kept p.constraints e.readings (proposed p.rules e) a h (of_one_action a cs) listed
-        (record {
-          members = λ b k. ap (has_action (insert_action (actions_below (accepted p e) a) a)) (sym (contains_one a b k))
-              ∙ has_insert_same (actions_below (accepted p e) a).bits a.0 (resolve_limit p.constraints e.readings (proposed p.rules e) a h);
-          condition = holds;
-        }))
+        (λ h. resolve_kept p.constraints e.readings (proposed p.rules e) a h (of_one_action a cs) listed (record { members = tried h; condition = holds }))
 
     one_cancelled : has_action (proposed p.rules e) a ≡ true → has_action (cancelled p e) a ≡ true
-    one_cancelled h = has_cancelled e a ∙ rw (h, one_rejected)
+    one_cancelled h = grind (arith, has_cancelled, one_rejected)
 
   pub lone_never_accepted : (a : Action) → Contains p.constraints (lone a) → (e : Epoch) → has_action (accepted p e) a ≡ false
   lone_never_accepted a m e = one_rejected a [] m e (λ c k. absurd (omega (arith, k.1)))

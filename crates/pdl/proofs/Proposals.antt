@@ -1,18 +1,17 @@
 -- The proposed set, and in the same words what is triggered, is what Definition 6 of Chomicki, Lobo and Naqvi, "Conflict Resolution Using Logic Programming" (TKDE 2003), says.
-use Rattle.std.proofs.Common.{◌<◌, ◌^◌, Bool, true, false, not, ◌&&◌, cond, zero, suc, List, [], ◌∷◌, Contains, ◌↔◌, ◌⊎◌, inl, inr, ⊎_elim, ◌≡◌, refl, ap, ◌∙◌, subst, lit<, fold, arith}
-use Rattle.policy.proofs.ListLaws.{true_false, not_true_is, and_in, and_out, contains_first, contains_later, all_in, all_out}
+use Rattle.std.proofs.Common.{◌<◌, ◌^◌, Bool, true, false, List, [], ◌∷◌, Contains, ◌↔◌, ◌⊎◌, inl, ◌≡◌, refl, subst, lit<, fold, arith}
+use Rattle.policy.proofs.ListLaws.{and_in, and_out, contains_first, contains_later, all_in, all_out, contains_cases}
 use Rattle.policy.proofs.EffectLaws.{effect_none, effect_new, effect_old, effect_cases, Small, small_with}
 use Rattle.policy.proofs.SetLaws.{has_limit}
 use Rattle.policy.proofs.MissingLaws.{missing_in_rule, fewer_in_rule}
 use Rattle.policy.specs.Comparison.{NamesMissing, comparison_holds}
-use Rattle.policy.specs.Effect.{effect_number, has_effect, no_effects, with_effect}
+use Rattle.policy.specs.Effect.{effect_number, has_effect, no_effects}
 use Rattle.policy.specs.Epoch.{SomeOf}
 use Rattle.policy.specs.declared.effect.Effect.{Effect}
 use Rattle.policy.specs.declared.effect.Effects.{Effects}
 use Rattle.policy.specs.declared.epoch.Readings.{Readings}
-use Rattle.policy.specs.List.{all}
 use Rattle.policy.specs.Number.{set_limit}
-use Rattle.pdl.specs.Pdl.{Occurs, OccursAs, Condition, Derives, Interpretation, has_its, Model, Entails, DefinedBy, TriggeredBy, DefinedOnKept, TriggeredByKept, ◌⊆◌, ◌⊑◌}
+use Rattle.pdl.specs.Pdl.{Occurs, Condition, Derives, Interpretation, has_its, Model, Entails, DefinedBy, TriggeredBy, DefinedOnKept, TriggeredByKept, ◌⊆◌, ◌⊑◌}
 use Rattle.policy.specs.Policy.{Rule}
 use Rattle.policy.specs.Set.{EventSet, has_event, all_events, keeping, has_action}
 use Rattle.pdl.specs.Reduction.{proposed_with, triggered_with}
@@ -27,117 +26,71 @@ use Rattle.policy.specs.declared.set.Events.{Events}
 -- a literal holds exactly if it occurs
 pub literal_occurs : (ev : Events) (l : Literal) → (literal_holds ev l ≡ true) ↔ Occurs ev l
 unfolding literal_holds
-literal_occurs ev l = go l.negated (has_event ev.present l.event) (has_event ev.occurred l.event)
-  where
-    go : (negated present occurred : Bool) → (cond negated (not occurred) present ≡ true) ↔ OccursAs negated (present ≡ true) (occurred ≡ true)
-    go false present occurred = (λ h. h, λ h. h)
-    go true present true = (λ h _. true_false h refl, λ h. absurd (h refl))
-    go true present false = (λ _ h. true_false h refl, λ _. refl)
+literal_occurs ev l = grind arith
 
 pub rule_holds_is : (ev : Events) (rs : Readings) (r : Rule) → ((l : Literal) → Contains r.literals l → Occurs ev l) → Condition Part.Rules rs r.comparisons → rule_holds ev rs r ≡ true
 unfolding rule_holds
-rule_holds_is ev rs r occurs condition =
-    and_in (all_in (literal_holds ev) r.literals (λ l m. (literal_occurs ev l).1 (occurs l m)))
-    (all_in (comparison_holds Part.Rules rs) r.comparisons condition)
+rule_holds_is ev rs r occurs condition = grind (arith, and_in, all_in, literal_occurs)
 
 -- a rule that holds derives its effect
 pub rule_derives : (rules : List Rule) (ev : Events) (rs : Readings) (r : Rule) → Contains rules r → rule_holds ev rs r ≡ true → Derives rules ev rs r.effect
 unfolding rule_holds
 rule_derives rules ev rs r m h =
     let parts = and_out _ _ h in
-    record {
-      rule = r;
-      listed = m;
-      effect = refl;
-      event = λ l k. (literal_occurs ev l).0 (all_out (literal_holds ev) r.literals parts.0 l k);
-      condition = all_out (comparison_holds Part.Rules rs) r.comparisons parts.1;
-    }
+    let event = λ (l : Literal) (k : Contains r.literals l). (literal_occurs ev l).0 (all_out (literal_holds ev) r.literals parts.0 l k) in
+    record { rule = r; listed = m; effect = refl; event = event; condition = all_out (comparison_holds Part.Rules rs) r.comparisons parts.1 }
 
 -- a rule with a comparison that names a missing reading does not hold
 pub missing_rule : (ev : Events) (rs : Readings) (r : Rule) (c : Comparison) → Contains r.comparisons c → NamesMissing rs c → rule_holds ev rs r ≡ false
 unfolding rule_holds
-missing_rule ev rs r c m missing =
-    not_true_is (all (literal_holds ev) r.literals && all (comparison_holds Part.Rules rs) r.comparisons)
-    (λ h. true_false
-    (all_out (comparison_holds Part.Rules rs) r.comparisons (and_out (all (literal_holds ev) r.literals) (all (comparison_holds Part.Rules rs) r.comparisons) h).1 c m)
-    (missing_in_rule rs c missing))
+missing_rule ev rs r c m missing = grind (arith, all_out (comparison_holds Part.Rules rs) r.comparisons, missing_in_rule rs c missing)
 
 -- ---- the effects of the rules that pass a test
 
 module _ (test : Rule → Bool) where
-  -- what one rule more changes
-  module _ (s : Effects) (r : Rule) (x : Effect) where
-    take_old : has_effect s x ≡ true → has_effect (take_effect test s r) x ≡ true
-    unfolding take_effect
-    take_old h = go (test r)
-      where
-        go : (b : Bool) → has_effect (cond b (with_effect s r.effect) s) x ≡ true
-        go true = effect_old s r.effect x h
-        go false = h
-
-    take_new : effect_number x < set_limit → r.effect ≡ x → test r ≡ true → has_effect (take_effect test s r) x ≡ true
-    unfolding take_effect
-    take_new l q h = rw (h, q) (effect_new s x l)
-
-    take_cases : has_effect (take_effect test s r) x ≡ true → ((r.effect ≡ x) × (test r ≡ true)) ⊎ (has_effect s x ≡ true)
-    unfolding take_effect
-    take_cases = go (test r) refl
-      where
-        go : (b : Bool) → test r ≡ b → has_effect (cond b (with_effect s r.effect) s) x ≡ true → ((r.effect ≡ x) × (test r ≡ true)) ⊎ (has_effect s x ≡ true)
-        go true q h = ⊎_elim (λ p. inl (p, q)) inr (effect_cases s r.effect x h)
-        go false q h = inr h
-
   -- a rule of a list that has the effect and passes the test
   abbrev pub Has : List Rule → Effect → Type 0
   Has rules x = (r : Rule) × Contains rules r × (r.effect ≡ x) × (test r ≡ true)
 
   module _ (x : Effect) where
     more_old : (rules : List Rule) (s : Effects) → has_effect s x ≡ true → has_effect (fold (take_effect test) s rules) x ≡ true
+    unfolding take_effect
     more_old [] s h = h
-    more_old (r ∷ rest) s h = more_old rest (take_effect test s r) (take_old s r x h)
+    more_old (r ∷ rest) s h = grind (arith, effect_old s r.effect x, more_old rest (take_effect test s r))
 
     more_new : (rules : List Rule) (s : Effects) (r : Rule) → Contains rules r → effect_number x < set_limit → r.effect ≡ x → test r ≡ true → has_effect (fold (take_effect test) s rules) x ≡ true
+    unfolding take_effect
     more_new [] s r m l q h = absurd (omega (arith, m.1))
-    more_new (y ∷ ys) s r (zero, i, p) l q h = more_old ys (take_effect test s y) (take_new s y x l (ap (λ (z : Rule). z.effect) p ∙ q) (ap test p ∙ h))
-    more_new (y ∷ ys) s r (suc k, i, p) l q h = more_new ys (take_effect test s y) r (k, omega arith, p) l q h
+    more_new (y ∷ ys) s r m l q h = grind (arith, contains_cases y ys r m, more_old ys (take_effect test s y), effect_new s x l, more_new ys (take_effect test s y) r)
 
     more_cases : (rules : List Rule) (s : Effects) → has_effect (fold (take_effect test) s rules) x ≡ true → (has_effect s x ≡ true) ⊎ Has rules x
+    unfolding take_effect
     more_cases [] s h = inl h
-    more_cases (y ∷ ys) s h = go (more_cases ys (take_effect test s y) h)
-      where
-        go : (has_effect (take_effect test s y) x ≡ true) ⊎ Has ys x → (has_effect s x ≡ true) ⊎ Has (y ∷ ys) x
-        go (inl k) = ⊎_elim (λ p. inr (y, contains_first y ys, p.0, p.1)) inl (take_cases s y x k)
-        go (inr f) = inr (f.0, contains_later y ys f.0 f.1, f.2, f.3)
+    more_cases (y ∷ ys) s h = grind (arith, contains_first, effect_cases s y.effect x, contains_later, more_cases ys (take_effect test s y) h)
 
   -- an effect is there exactly if some rule that passes the test has it
   pub effects_exactly : (rules : List Rule) (x : Effect) → effect_number x < set_limit → (has_effect (effects_where test rules) x ≡ true) ↔ Has rules x
   unfolding effects_where
-  effects_exactly rules x l =
-      (λ h. ⊎_elim (λ k. absurd (true_false k (effect_none x))) (λ f. f) (more_cases x rules no_effects h), λ f. more_new x rules no_effects f.0 f.1 l f.2 f.3)
+  effects_exactly rules x l = grind (arith, effect_none, more_cases, more_new)
+
+  take_small : (s : Effects) (r : Rule) → Small s → Small (take_effect test s r)
+  unfolding take_effect
+  take_small s r h = grind (arith, small_with)
+
+  more_small : (rules : List Rule) (s : Effects) → Small s → Small (fold (take_effect test) s rules)
+  more_small [] s h = h
+  more_small (r ∷ rest) s h = more_small rest (take_effect test s r) (take_small s r h)
 
   -- and its number is one of 64
   pub effects_small : (rules : List Rule) → Small (effects_where test rules)
-  unfolding effects_where take_effect
-  effects_small rules = more rules no_effects (record { actions = lit< tt; events = lit< tt })
-    where
-      step : (s : Effects) (r : Rule) → Small s → Small (take_effect test s r)
-      step s r h = go (test r)
-        where
-          go : (b : Bool) → Small (cond b (with_effect s r.effect) s)
-          go true = small_with s r.effect h
-          go false = h
-
-      more : (rules : List Rule) (s : Effects) → Small s → Small (fold (take_effect test) s rules)
-      more [] s h = h
-      more (r ∷ rest) s h = more rest (take_effect test s r) (step s r h)
+  unfolding effects_where
+  effects_small rules = more_small rules no_effects (record { actions = lit< tt; events = lit< tt })
 
 -- ---- the effects of the rules that hold
 
 -- an effect is there exactly if some rule has it, and all the rule's literals and comparisons hold
 pub effects_derived : (rules : List Rule) (ev : Events) (rs : Readings) (x : Effect) → effect_number x < set_limit → (has_effect (effects rules ev rs) x ≡ true) ↔ Derives rules ev rs x
-effects_derived rules ev rs x l =
-    let exactly = effects_exactly (rule_holds ev rs) rules x l in
-    ((λ h. let f = exactly.0 h in rw (← f.2) (rule_derives rules ev rs f.0 f.1 f.3)), λ d. exactly.1 (d.rule, d.listed, d.effect, rule_holds_is ev rs d.rule d.event d.condition))
+effects_derived rules ev rs x l = grind (arith, effects_exactly, rule_derives, rule_holds_is)
 
 -- what some rule derives holds in every model, and what holds in the model of these effects is among them
 pub effects_entailed : (rules : List Rule) (ev : Events) (rs : Readings) (x : Effect) → effect_number x < set_limit → (has_effect (effects rules ev rs) x ≡ true) ↔ Entails rules ev rs x
@@ -162,12 +115,7 @@ effects_entailed rules ev rs x l = (λ h I m. entailed I m ((effects_derived rul
     there (Effect.Triggers e) h = h
 
     is_model : Model rules ev rs least
-    is_model =
-        record {
-          facts = λ k o. o;
-          implications = λ r m occurs condition.
-              there r.effect (λ b. (effects_derived rules ev rs r.effect b).1 (record { rule = r; listed = m; effect = refl; event = occurs; condition = condition }));
-        }
+    is_model = grind (arith, there, effects_derived)
 
 -- ---- what is proposed, and what is triggered
 
@@ -185,6 +133,7 @@ proposals_entailed rules ev rs a = effects_entailed rules ev rs (Effect.Causes a
 
 -- Definition 6
 pub proposed_defined : (rules : List Rule) → DefinedBy rules (proposed rules)
+unfolding has_effect effect_number
 proposed_defined rules e a = proposals_entailed rules (all_events e.events) e.readings a
 
 pub triggered_defined : (rules : List Rule) → TriggeredBy rules (triggered rules)
@@ -198,34 +147,20 @@ proposals_limit rules ev rs = (effects_small (rule_holds ev rs) rules).actions
 -- an event is reserved exactly if some rule triggers it
 pub reserved_exactly : (rules : List Rule) (x : Event) → x.0 < set_limit → (has_event (reserved rules) x ≡ true) ↔ ((r : Rule) × Contains rules r × (r.effect ≡ Effect.Triggers x))
 unfolding has_effect effect_number
-reserved_exactly rules x l =
-    let exactly = effects_exactly (λ r. true) rules (Effect.Triggers x) l in
-    ((λ h. let f = exactly.0 h in (f.0, f.1, f.2)), λ f. exactly.1 (f.0, f.1, f.2, refl))
+reserved_exactly rules x l = grind (arith, effects_exactly (λ (r : Rule). true) rules (Effect.Triggers x) l)
 
 -- with fewer readings no more is proposed
 pub fewer_proposed : (rules : List Rule) (ev : Events) (fewer all : Readings) → SomeOf fewer all → proposals rules ev fewer ⊆ proposals rules ev all
-fewer_proposed rules ev fewer all Some-of a h =
-    let l : a.0 < set_limit = has_limit (proposals rules ev fewer).bits (proposals_limit rules ev fewer) a.0 h in
+fewer_proposed rules ev fewer all some_of a h =
+    let l = has_limit (proposals rules ev fewer).bits (proposals_limit rules ev fewer) a.0 h in
     let d = (proposals_derived rules ev fewer a l).0 h in
-    (proposals_derived rules ev all a l).1
-    (record { rule = d.rule; listed = d.listed; effect = d.effect; event = d.event; condition = λ c m. fewer_in_rule fewer all Some-of c (d.condition c m) })
+    let condition = λ (c : Comparison) (m : Contains d.rule.comparisons c). fewer_in_rule fewer all some_of c (d.condition c m) in
+    (proposals_derived rules ev all a l).1 (record { rule = d.rule; listed = d.listed; effect = d.effect; event = d.event; condition = condition })
 
 -- with more events present, and the same that occurred, no less is proposed
 pub more_proposed : (rules : List Rule) (fewer more occurred : EventSet) (rs : Readings) → fewer ⊑ more
     → proposals rules (keeping occurred fewer) rs ⊆ proposals rules (keeping occurred more) rs
-more_proposed rules fewer more occurred rs Some-of a h =
-    let l : a.0 < set_limit = has_limit (proposals rules (keeping occurred fewer) rs).bits (proposals_limit rules (keeping occurred fewer) rs) a.0 h in
-    let d = (proposals_derived rules (keeping occurred fewer) rs a l).0 h in
-    (proposals_derived rules (keeping occurred more) rs a l).1
-    (record { rule = d.rule; listed = d.listed; effect = d.effect; event = λ k m. stays k (d.event k m); condition = d.condition })
-  where
-    by : (negated : Bool) (k : Literal) → OccursAs negated (has_event fewer k.event ≡ true) (has_event occurred k.event ≡ true)
-        → OccursAs negated (has_event more k.event ≡ true) (has_event occurred k.event ≡ true)
-    by true k o = o
-    by false k o = Some-of k.event o
-
-    stays : (k : Literal) → Occurs (keeping occurred fewer) k → Occurs (keeping occurred more) k
-    stays k o = by k.negated k o
+more_proposed rules fewer more occurred rs some_of a h = grind (arith, has_limit, proposals_limit, proposals_derived)
 
 -- Definition 6, where only some events of an epoch are kept
 pub kept_defined : (rules : List Rule) → DefinedOnKept rules (proposed_with rules)

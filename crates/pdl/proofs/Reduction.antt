@@ -1,7 +1,7 @@
 -- The events that are kept are a maximal reduction free of conflict, lower numbers kept first; and an epoch has no such reduction
 -- exactly where a constraint holds already with no event kept. Definitions below are those of Chomicki, Lobo and Naqvi, "Conflict
 -- Resolution Using Logic Programming" (TKDE 2003); a maximal reduction is that of Definition 10.
-use Rattle.std.proofs.Common.{ℕ, Bool, true, false, ◌↔◌, ◌≡◌, refl, sym, ap}
+use Rattle.std.proofs.Common.{ℕ, Bool, true, false, ◌↔◌, ◌≡◌, refl, sym, ap, arith}
 use Rattle.policy.proofs.ListLaws.{true_false, not_true_is, not_false_is}
 use Rattle.policy.proofs.SetLaws.{has_empty, has_limit}
 use Rattle.policy.specs.Epoch.{InAlphabet}
@@ -27,37 +27,21 @@ module _ (p : Policy) (e : Epoch) where
 
   -- ---- trials
 
-  more_clashes : (s t : EventSet) → s ⊑ t → clashes p e s ≡ true → clashes p e t ≡ true
-  unfolding clashes
-  more_clashes s t h =
-      conflict_more p.constraints e.readings (proposed_with p.rules e s) (proposed_with p.rules e t) (more_proposed p.rules s t e.events e.readings h)
-
   bad_monotone : Monotone bad
-  bad_monotone s t h = more_clashes (set_of s) (set_of t) (λ x. h x.0)
-
-  consistent : (kept : EventSet) → clashes p e kept ≡ false → Satisfies p.constraints e.readings (proposed_with p.rules e kept)
   unfolding clashes
-  consistent kept = satisfied p.constraints e.readings (proposed_with p.rules e kept)
-
-  no_clash : (kept : EventSet) → Reduces kept → clashes p e kept ≡ false
-  unfolding clashes
-  no_clash kept r = no_conflict p.constraints e.readings (proposed_with p.rules e kept) r.consistent
-
-  violated : (kept : EventSet) → clashes p e kept ≡ true → Violated p.constraints e.readings (proposed_with p.rules e kept)
-  unfolding clashes
-  violated kept = conflict_out p.constraints e.readings (proposed_with p.rules e kept)
+  bad_monotone s t h = grind (arith, conflict_more, more_proposed)
 
   none_within : (t : EventSet) → no_events ⊑ t
-  none_within t x h = absurd (true_false h (has_empty x.0))
+  none_within t x h = cc (has_empty x.0)
 
   -- ---- when an epoch cannot be reduced
 
   -- exactly where a constraint holds with no event kept
   pub unavoidable_exactly : (unavoidable p e ≡ true) ↔ ¬ Reducible p.constraints (proposed_with p.rules) e
-  unfolding unavoidable
+  unfolding unavoidable clashes
   unavoidable_exactly = (
-    (λ h r. true_false (more_clashes no_events r.kept (none_within r.kept) h) (no_clash r.kept r.reduction)),
-    λ h. not_false_is (clashes p e no_events) (λ q. h (record { kept = no_events; reduction = record { within = none_within e.events; consistent = consistent no_events q } })),
+    (λ h r. true_false (bad_monotone 0 r.kept.bits (λ n. none_within r.kept (record { 0 = n })) h) (no_conflict _ _ _ r.reduction.consistent)),
+    λ h. not_false_is (clashes p e no_events) (λ q. h (record { kept = no_events; reduction = record { within = none_within e.events; consistent = satisfied _ _ _ q } })),
   )
 
   pub reducible_avoids : Reducible p.constraints (proposed_with p.rules) e → unavoidable p e ≡ false
@@ -86,13 +70,14 @@ module _ (p : Policy) (e : Epoch) where
     unfolding kept_events unavoidable
     kept_good = greedy_good bad e.events.bits avoidable
 
-    pub kept_reduces : Reduces (kept_events p e)
-    kept_reduces = record { within = kept_within; consistent = consistent (kept_events p e) kept_good }
-
     -- no constraint holds on what is issued
     pub issued_satisfies : Satisfies p.constraints e.readings (issued p e)
+    unfolding issued clashes
+    issued_satisfies = satisfied p.constraints e.readings (issued p e) kept_good
+
+    pub kept_reduces : Reduces (kept_events p e)
     unfolding issued
-    issued_satisfies = consistent (kept_events p e) kept_good
+    kept_reduces = record { within = kept_within; consistent = issued_satisfies }
 
   -- ---- of an epoch with the events E0 to E63
 
@@ -102,20 +87,21 @@ module _ (p : Policy) (e : Epoch) where
     maximal u h k good = ap set_of (greedy_maximal bad e.events.bits bad_monotone inside u.bits (λ n. k (record { 0 = n })) good (λ n. h (record { 0 = n })))
 
     pub kept_maximal : unavoidable p e ≡ false → MaximalReduction p.constraints (proposed_with p.rules) e (kept_events p e)
-    kept_maximal avoidable = record { reduction = kept_reduces avoidable; maximal = λ u h r. maximal u h r.within (no_clash u r) }
+    unfolding clashes
+    kept_maximal avoidable =
+        record { reduction = kept_reduces avoidable; maximal = λ u h r. maximal u h r.within (no_conflict p.constraints e.readings (proposed_with p.rules e u) r.consistent) }
 
     -- giving back one or more dropped events makes a constraint hold
     pub giving_back_clashes : (u : EventSet) → kept_events p e ⊑ u → u ⊑ e.events → ¬ (u ≡ kept_events p e)
         → Violated p.constraints e.readings (proposed_with p.rules e u)
-    giving_back_clashes u h k other = violated u (not_false_is (clashes p e u) (λ q. other (maximal u h k q)))
+    unfolding clashes
+    giving_back_clashes u h k other = conflict_out p.constraints e.readings (proposed_with p.rules e u) (not_false_is (clashes p e u) (λ q. other (maximal u h k q)))
 
     -- an event is dropped only for its own trial: on what the lower kept ones propose together with it some constraint holds
     pub dropped_trial : (x : Event) → has_event e.events x ≡ true → has_event (kept_events p e) x ≡ false
         → Violated p.constraints e.readings (proposed_with p.rules e (insert_event (events_below (kept_events p e) x) x))
-    unfolding kept_events
-    dropped_trial x h k =
-        violated (insert_event (events_below (kept_events p e) x) x)
-        (greedy_dropped bad e.events.bits x.0 (has_limit e.events.bits inside x.0 h) h k)
+    unfolding kept_events clashes
+    dropped_trial x h k = grind (arith, conflict_out, greedy_dropped, has_limit)
 
     -- where nothing clashes, no event is dropped
     module _ (clean : Satisfies p.constraints e.readings (proposed p.rules e)) where
@@ -126,9 +112,6 @@ module _ (p : Policy) (e : Epoch) where
       pub nothing_withheld : withheld p e ≡ no_actions
       unfolding withheld issued
       nothing_withheld = no_others (proposed p.rules e) (issued p e) (ap (proposed_with p.rules e) all_kept)
-
-      pub clean_reducible : Reducible p.constraints (proposed_with p.rules) e
-      clean_reducible = record { kept = e.events; reduction = record { within = λ x h. h; consistent = clean } }
 
 -- Definition 11.4
 pub event_cancellation : (p : Policy) → EventCancellation p.constraints (proposed_with p.rules) (issued p)

@@ -1,18 +1,19 @@
 -- Laws of resolving: when a set of actions has a conflict, and what is kept of it.
-use Rattle.std.proofs.Common.{ap, ℕ, ◌^◌, ◌<◌, Bool, true, false, List, [], ◌∷◌, Contains, ◌≡◌, refl}
+use Rattle.std.proofs.Common.{arith, ap, ℕ, ◌^◌, ◌<◌, Bool, true, false, List, [], ◌∷◌, Contains, ◌≡◌, refl}
 use Rattle.pdl.proofs.GreedyLaws.{Monotone, greedy_kept, greedy_dropped, greedy_within, greedy_good, greedy_maximal, greedy_limit}
-use Rattle.policy.proofs.ListLaws.{true_false, not_true_is, and_in, and_out, contains_first, all_in, all_out, any_in, any_out}
+use Rattle.policy.proofs.ListLaws.{not_true_is, and_in, and_out, contains_first, all_in, all_out, any_in, any_out}
 use Rattle.policy.proofs.MissingLaws.{fewer_in_constraint}
 use Rattle.policy.proofs.SetLaws.{has_empty, has_limit, set_ext}
 use Rattle.policy.specs.Comparison.{comparison_holds}
 use Rattle.policy.specs.Epoch.{SomeOf}
 use Rattle.policy.specs.declared.epoch.Readings.{Readings}
-use Rattle.policy.specs.List.{all}
+use Rattle.std.specs.List.{list_all}
 use Rattle.policy.specs.Number.{set_limit}
 use Rattle.pdl.specs.Pdl.{HoldsOn, Violated, Satisfies, NameActions, ◌⊆◌}
 use Rattle.policy.specs.Policy.{Constraint}
 use Rattle.policy.specs.Set.{ActionSet, has_action, no_actions, insert_action, actions_below, set_of}
 use Rattle.pdl.specs.Yield.{constraint_holds, conflict, resolve}
+use Rattle.policy.specs.declared.comparison.Comparison.{Comparison}
 use Rattle.policy.specs.declared.line.Part.{Part}
 use Rattle.policy.specs.declared.number.Action.{Action}
 
@@ -29,7 +30,7 @@ holds_in rs s c h = and_in (all_in (has_action s) c.actions h.members) (all_in (
 pub holds_out : (rs : Readings) (s : ActionSet) (c : Constraint) → constraint_holds rs s c ≡ true → HoldsOn rs s c
 unfolding constraint_holds
 holds_out rs s c h =
-    let parts = and_out (all (has_action s) c.actions) (all (comparison_holds Part.Constraints rs) c.comparisons) h in
+    let parts = and_out (list_all (has_action s) c.actions) (list_all (comparison_holds Part.Constraints rs) c.comparisons) h in
     record { members = all_out (has_action s) c.actions parts.0; condition = all_out (comparison_holds Part.Constraints rs) c.comparisons parts.1 }
 
 module _ (constraints : List Constraint) (rs : Readings) where
@@ -39,12 +40,10 @@ module _ (constraints : List Constraint) (rs : Readings) where
 
   pub conflict_out : (s : ActionSet) → conflict constraints rs s ≡ true → Violated constraints rs s
   unfolding conflict
-  conflict_out s h =
-      let r = any_out (constraint_holds rs s) constraints h in
-      record { constraint = r.0; listed = r.1; holds = holds_out rs s r.0 r.2 }
+  conflict_out s h = grind (arith, any_out, holds_out)
 
   pub satisfied : (s : ActionSet) → conflict constraints rs s ≡ false → Satisfies constraints rs s
-  satisfied s h c m k = true_false (conflict_in s (record { constraint = c; listed = m; holds = k })) h
+  satisfied s h c m k = grind (arith, conflict_in)
 
   pub no_conflict : (s : ActionSet) → Satisfies constraints rs s → conflict constraints rs s ≡ false
   no_conflict s h = not_true_is (conflict constraints rs s) (λ e. let v = conflict_out s e in h v.constraint v.listed v.holds)
@@ -54,32 +53,23 @@ module _ (constraints : List Constraint) (rs : Readings) where
 
   -- what holds on a set holds on a larger one
   pub conflict_more : (s t : ActionSet) → s ⊆ t → conflict constraints rs s ≡ true → conflict constraints rs t ≡ true
-  conflict_more s t h e =
-      let v = conflict_out s e in
-      conflict_in t (record {
-        constraint = v.constraint;
-        listed = v.listed;
-        holds = record { members = λ a m. h a (v.holds.members a m); condition = v.holds.condition };
-      })
+  conflict_more s t h e = grind (arith, conflict_out, conflict_in)
 
   pub bad_monotone : Monotone bad
   bad_monotone s t h = conflict_more (set_of s) (set_of t) (λ a. h a.0)
 
+  none_named : (actions : List Action) → ¬ (actions ≡ []) → ((a : Action) → Contains actions a → has_action no_actions a ≡ true) → ⊥
+  none_named [] named h = named refl
+  none_named (a ∷ rest) named h = cc (h a (contains_first a rest), has_empty a.0)
+
   bad_empty : NameActions constraints → bad 0 ≡ false
-  bad_empty named = no_conflict no_actions (λ c m h. none c.actions (named c m) h.members)
-    where
-      none : (as' : List Action) → ¬ (as' ≡ []) → ((a : Action) → Contains as' a → has_action no_actions a ≡ true) → ⊥
-      none [] named' h = named' refl
-      none (a ∷ rest) named' h = true_false (h a (contains_first a rest)) (has_empty a.0)
+  bad_empty named = no_conflict no_actions (λ c m h. none_named c.actions (named c m) h.members)
 
   -- what is violated stays so with fewer readings
   pub fewer_violated : (fewer : Readings) → SomeOf fewer rs → (s : ActionSet) → Violated constraints rs s → Violated constraints fewer s
-  fewer_violated fewer Some-of s v =
-      record {
-        constraint = v.constraint;
-        listed = v.listed;
-        holds = record { members = v.holds.members; condition = λ c m. fewer_in_constraint fewer rs Some-of c (v.holds.condition c m) };
-      }
+  fewer_violated fewer some_of s v =
+      let condition = λ (c : Comparison) (m : Contains v.constraint.comparisons c). fewer_in_constraint fewer rs some_of c (v.holds.condition c m) in
+      record { constraint = v.constraint; listed = v.listed; holds = record { members = v.holds.members; condition = condition } }
 
   -- ---- what is kept of any set of actions
 
@@ -100,9 +90,7 @@ module _ (constraints : List Constraint) (rs : Readings) where
     -- what the trial of a member that is not kept showed
     pub resolve_dropped : s.bits < 2 ^ 64 → (a : Action) → has_action s a ≡ true → has_action (resolve constraints rs s) a ≡ false → Violated constraints rs (insert_action (actions_below (resolve constraints rs s) a) a)
     unfolding resolve
-    resolve_dropped limit a h k =
-        conflict_out (insert_action (actions_below (resolve constraints rs s) a) a)
-        (greedy_dropped bad s.bits a.0 (has_limit s.bits limit a.0 h) h k)
+    resolve_dropped limit a h k = grind (arith, conflict_out, greedy_dropped, has_limit)
 
     -- what the trial of a member that is kept showed
     pub resolve_kept : (a : Action) → has_action (resolve constraints rs s) a ≡ true → Satisfies constraints rs (insert_action (actions_below (resolve constraints rs s) a) a)

@@ -2,12 +2,10 @@ pub mod ConstantLaws
 pub mod EffectLaws
 pub mod FaultLaws
 pub mod FillLaws
-pub mod FlagLaws
 pub mod ListLaws
 pub mod MissingLaws
 pub mod RelationLaws
 pub mod ResultLaws
 pub mod SeenLaws
 pub mod SetLaws
-pub mod SignLaws
 pub mod ValidLaws

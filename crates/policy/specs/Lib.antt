@@ -6,7 +6,6 @@ pub mod Epoch
 pub mod Comparison
 pub mod Policy
 pub mod Line
-pub mod List
 pub mod Result
 pub mod Limits
 pub mod Fault

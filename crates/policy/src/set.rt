@@ -14,6 +14,7 @@ pub fn member(set: u64, n: u8) -> bool
 }
 
 /// The set of bits with a number. Past 63 it stays as it is.
+#[tactic(auto, unfolding(crate::specs::Set::insert))]
 pub fn with_member(set: u64, n: u8) -> u64
     ensures { result ≡ insert set n }
 {
@@ -21,6 +22,7 @@ pub fn with_member(set: u64, n: u8) -> u64
 }
 
 /// The members under `n` of a set of bits.
+#[tactic(auto, unfolding(crate::specs::Set::below), using(crate::proofs::SetLaws::below_all))]
 pub(crate) fn members_below(set: u64, n: u8) -> u64
     ensures { result ≡ below set n }
 {

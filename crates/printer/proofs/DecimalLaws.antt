@@ -1,15 +1,12 @@
 -- Reading the decimal digits of a number back yields it.
-use Rattle.std.specs.Prelude.{option_map, Option, Some, None}
-use Rattle.std.specs.Option.{option_or}
-use Rattle.std.proofs.Common.{ℕ, zero, suc, ◌+◌, ◌*◌, ◌%◌, ◌<◌, true, false, List, [], ◌∷◌, ◌++◌, ◌≡◌, refl, sym, ap, ◌∙◌, arith, le-leb, ne_eqb, ℤ, pos, negsuc, fold}
+use Rattle.std.proofs.Common.{ℕ, zero, suc, ◌+◌, ◌*◌, ◌%◌, ◌<◌, true, false, List, [], ◌∷◌, ◌++◌, ◌≡◌, refl, sym, ap, ◌∙◌, arith, ne_eqb, ℤ, pos, fold, option_map, Some, None, eqb, get_or}
 use Rattle.std.proofs.Math.Bool.{or-true}
-use Rattle.std.proofs.Math.Dec.{eqb}
-use Rattle.std.proofs.Math.ListN.{get_or}
-use Rattle.policy.proofs.ListLaws.{true_false, and_in, and_out, all_append}
-use Rattle.policy.specs.List.{all}
+use Rattle.std.proofs.lemmas.Bool.Decides.{nat_tests}
+use Rattle.policy.proofs.ListLaws.{true_false, all_append}
+use Rattle.std.specs.List.{list_all}
 use Rattle.lexer.specs.Byte.{is_digit}
 use Rattle.lexer.specs.Token.{named}
-use Rattle.lexer.specs.Number.{decimal_from, is_empty, number_of, negative, decimal_of, hexadecimal_of, constant_of}
+use Rattle.lexer.specs.Number.{decimal_from, is_empty, number_of, negative, decimal_of, constant_of}
 use Rattle.output.specs.Number.{digit, digits, decimal, digit_value}
 use Rattle.output.proofs.DecimalLaws.{decimal_by, decimal_value, decimal_lead}
 use Rattle.printer.specs.Printed.{constant_token}
@@ -21,12 +18,12 @@ unfolding decimal_from
 decimal_fold v [] = refl
 decimal_fold v (d ∷ ds) = decimal_fold (v * 10 + digit_value d) ds
 
-one_digit : (n : ℕ) → n < 10 → all is_digit (digit n ∷ []) ≡ true
-one_digit n h = and_in (and_in (le-leb 48 (48 + n) (omega arith)) (le-leb (48 + n) 57 (omega arith))) refl
+one_digit : (n : ℕ) → n < 10 → list_all is_digit (digit n ∷ []) ≡ true
+one_digit n h = grind (arith, nat_tests)
 
-pub decimal_all : (n : ℕ) → all is_digit (decimal n) ≡ true
+pub decimal_all : (n : ℕ) → list_all is_digit (decimal n) ≡ true
 decimal_all =
-    decimal_by (λ n ds. all is_digit ds ≡ true) one_digit
+    decimal_by (λ n ds. list_all is_digit ds ≡ true) one_digit
     (λ n h ds e. all_append is_digit ds (digit (n % 10) ∷ []) e (one_digit (n % 10) (omega arith)))
 
 pub decimal_some : (n : ℕ) → is_empty (decimal n) ≡ false
@@ -36,10 +33,9 @@ decimal_some = decimal_by (λ n ds. is_empty ds ≡ false) (λ n h. refl) (λ n 
     go [] d = refl
     go (b ∷ ds) d = refl
 
-led_read : (ds : List ℕ) → ¬ (get_or ds 0 48 ≡ 48) → all is_digit ds ≡ true → number_of ds ≡ Some (decimal_from 0 ds)
+led_read : (ds : List ℕ) → ¬ (get_or ds 0 48 ≡ 48) → list_all is_digit ds ≡ true → number_of ds ≡ Some (decimal_from 0 ds)
 unfolding number_of
-led_read [] z h = absurd (z refl)
-led_read (d ∷ ds) z h = rw (h, ne_eqb d 48 z, or-true (is_empty ds))
+led_read ds z h = grind (arith, nat_tests, or-true)
 
 zero_read : number_of (decimal 0) ≡ Some 0
 unfolding decimal digits number_of decimal_from
@@ -54,21 +50,18 @@ number_read (suc m) = led_read (decimal (suc m)) (decimal_lead (suc m) (omega ar
 pub digit_not : (d b : ℕ) → is_digit d ≡ true → is_digit b ≡ false → eqb d b ≡ false
 digit_not d b h k = ne_eqb d b (λ q. true_false (sym (ap is_digit q) ∙ h) k)
 
-pub digits_unnamed : (letter : ℕ) (ds : List ℕ) → is_digit letter ≡ false → all is_digit ds ≡ true → named letter ds ≡ None
+pub digits_unnamed : (letter : ℕ) (ds : List ℕ) → is_digit letter ≡ false → list_all is_digit ds ≡ true → named letter ds ≡ None
 unfolding named
-digits_unnamed letter [] h k = refl
-digits_unnamed letter (d ∷ ds) h k = rw (digit_not d letter (and_out (is_digit d) (all is_digit ds) k).0 h)
+digits_unnamed letter ds h k = grind (arith, nat_tests, digit_not)
 
-digits_constant : (ds : List ℕ) → all is_digit ds ≡ true → decimal_of ds ≡ option_map pos (number_of ds)
+digits_constant : (ds : List ℕ) → list_all is_digit ds ≡ true → decimal_of ds ≡ option_map pos (number_of ds)
 unfolding decimal_of number_of
-digits_constant [] k = refl
-digits_constant (d ∷ ds) k = rw (digit_not d 45 (and_out (is_digit d) (all is_digit ds) k).0 refl)
+digits_constant ds k = grind (arith, nat_tests)
 
 decimal_read : (k : ℤ) → decimal_of (constant_token k) ≡ Some k
 unfolding constant_token decimal_of negative
-decimal_read (pos n) = digits_constant (decimal n) (decimal_all n) ∙ ap (option_map pos) (number_read n)
-decimal_read (negsuc n) = ap negative (number_read (suc n))
+decimal_read k = grind (arith, digits_constant, decimal_all, number_read)
 
 pub constant_read : (k : ℤ) → constant_of (constant_token k) ≡ Some k
 unfolding constant_of
-constant_read k = ap (λ (o : Option ℤ). option_or o (hexadecimal_of (constant_token k))) (decimal_read k)
+constant_read k = rw (decimal_read k)

@@ -1,6 +1,5 @@
 -- Each row of the table of texts is printed as it stands.
-use Rattle.std.specs.Prelude.{Some}
-use Rattle.std.proofs.Common.{map, ◌≡◌, refl}
+use Rattle.std.proofs.Common.{map, ◌≡◌, refl, Some}
 use Prim.Native.String.{String}
 use Rattle.policy.specs.Effect.{effect_number}
 use Rattle.policy.specs.Limits.{is_reading_value, test_number, operand_in_range, comparison_in_range, effect_in_range, ending_in_range, ending_allowed, in_range, crowded, repeats, repeated}

@@ -1,12 +1,11 @@
 -- The bound on the length of a text is reached.
-use Rattle.std.proofs.Common.{ℕ, zero, suc, ◌+◌, ◌*◌, Bool, true, false, cond, List, [], ◌∷◌, map, ◌≡◌, refl, ap, ap₂, ◌∙◌, arith, negsuc, length, replicate, length-append}
-use Rattle.std.proofs.Math.Dec.{leb}
+use Rattle.std.proofs.Common.{ℕ, zero, suc, ◌+◌, ◌*◌, Bool, true, false, cond, List, [], ◌∷◌, map, ◌≡◌, refl, ap, arith, negsuc, length, replicate, length-append, leb}
 use Rattle.std.proofs.Math.ListN.{length-replicate}
 use Rattle.policy.proofs.ListLaws.{and_in}
 use Rattle.policy.specs.Effect.{effect_number}
 use Rattle.policy.specs.Limits.{is_reading_value, test_number, operand_in_range, comparison_in_range, effect_in_range, ending_in_range, ending_allowed, in_range, crowded, repeats, repeated, valid, allowed, trigger_form, Acceptable}
 use Rattle.policy.specs.Line.{PolicyLine, rule, constraint, heads_of, comparisons_of, ending_of}
-use Rattle.policy.specs.List.{all}
+use Rattle.std.specs.List.{list_all}
 use Rattle.policy.specs.Policy.{Policy, Rule, Constraint}
 use Rattle.policy.specs.declared.comparison.Comparison.{Comparison}
 use Rattle.policy.specs.declared.comparison.Operand.{Operand}
@@ -40,7 +39,7 @@ long_constraint = record { actions = map (λ (n : ℕ). record { 0 = n }) eight;
 -- ---- as many of them as there may be
 
 module _ {A : Type 0} (line : A → PolicyLine) (x : A) where
-  copies_all : (p : PolicyLine → Bool) → p (line x) ≡ true → (n : ℕ) → all p (map line (replicate n x)) ≡ true
+  copies_all : (p : PolicyLine → Bool) → p (line x) ≡ true → (n : ℕ) → list_all p (map line (replicate n x)) ≡ true
   copies_all p v zero = refl
   copies_all p v (suc n) = and_in v (copies_all p v n)
 
@@ -72,36 +71,28 @@ constraint_valid = refl
 
 rule_allowed : (form : ℕ) (triggers : Bool) → leb trigger_form form ≡ triggers → allowed form (rule (long_rule triggers)) ≡ true
 unfolding long_effect long_rule ending_of ending_allowed
-rule_allowed form true e = e
-rule_allowed form false e = refl
+rule_allowed form triggers e = grind arith
 
 longest_long : (triggers : Bool) → length (text_of (longest triggers)) ≡ cond triggers longest_text 27968
 unfolding text_of longest
 longest_long triggers =
     let rs : List PolicyLine = map rule (replicate 128 (long_rule triggers)) in
     let cs : List PolicyLine = map constraint (replicate 64 long_constraint) in
-    ap length (lines_append rs cs) ∙ length-append (lines_text rs) (lines_text cs)
-    ∙ ap₂ (λ (m n : ℕ). m + n) (copies_long rule (long_rule triggers) (cond triggers 152 150) (rule_long triggers) 128) (copies_long constraint long_constraint 137 constraint_long 64)
-    ∙ sum triggers
+    let rules = copies_long rule (long_rule triggers) (cond triggers 152 150) (rule_long triggers) 128 in
+    let constraints = copies_long constraint long_constraint 137 constraint_long 64 in
+    omega (arith, ap length (lines_append rs cs), length-append (lines_text rs) (lines_text cs), rules, constraints, sum triggers)
   where
     sum : (b : Bool) → 128 * cond b 152 150 + 64 * 137 ≡ cond b longest_text 27968
-    sum true = refl
-    sum false = refl
+    sum b = grind arith
 
 -- for each form some acceptable policy has a text of so many bytes
 pub longest_reached : (form : ℕ) → (p : Policy) × (Acceptable form p × (length (text_of p) ≡ longest_text_for form))
 unfolding longest longest_text_for
 longest_reached form =
-    let triggers : Bool = leb trigger_form form in (
+    let triggers : Bool = leb trigger_form form in
+    let rules : (p : PolicyLine → Bool) → p (rule (long_rule triggers)) ≡ true → list_all p (map rule (replicate 128 (long_rule triggers))) ≡ true =
+    λ p h. copies_all rule (long_rule triggers) p h 128 in
+    let constraints = copies_all constraint long_constraint valid constraint_valid 64 in (
       longest triggers,
-      (
-        record {
-          rules_valid = copies_all rule (long_rule triggers) valid (rule_valid triggers) 128;
-          constraints_valid = copies_all constraint long_constraint valid constraint_valid 64;
-          rules_allowed = copies_all rule (long_rule triggers) (allowed form) (rule_allowed form triggers refl) 128;
-          few_rules = omega (arith, length-replicate 128 (long_rule triggers));
-          few_constraints = omega (arith, length-replicate 64 long_constraint);
-        },
-        longest_long triggers,
-      ),
+      (grind (arith, rules valid (rule_valid triggers), constraints, rules (allowed form) (rule_allowed form triggers refl), length-replicate), longest_long triggers),
     )

@@ -1,16 +1,15 @@
 -- The text of a line from its parts is the text of the line.
-use Rattle.std.proofs.Common.{ℕ, ◌<◌, true, List, [], ◌∷◌, ◌++◌, map, append_assoc, append-nil, ◌≡◌, refl, sym, ap, ap₂, ◌∙◌, arith, length}
+use Rattle.std.proofs.Common.{ℕ, ◌<◌, true, List, [], ◌∷◌, ◌++◌, map, append_assoc, append-nil, ◌≡◌, refl, sym, ap, ◌∙◌, arith, length}
 use Rattle.std.proofs.Math.ListN.{length-map}
 use Rattle.policy.proofs.ValidLaws.{valid_out}
 use Rattle.policy.specs.Limits.{valid}
-use Rattle.policy.specs.Line.{PolicyLine, rule, constraint, heads_of, comparisons_of, ending_of}
+use Rattle.policy.specs.Line.{PolicyLine, heads_of, comparisons_of, ending_of}
 use Rattle.policy.specs.declared.comparison.Comparison.{Comparison}
 use Rattle.policy.specs.declared.effect.Effect.{Effect}
-use Rattle.policy.specs.declared.line.Test.{Test}
 use Rattle.lexer.specs.Byte.{bytes}
 use Rattle.lexer.specs.Token.{Token}
 use Rattle.printer.proofs.LengthLaws.{some_tokens}
-use Rattle.printer.specs.Printed.{action_token, event_token, literal_token, effect_tokens, comparison_tokens, joined_by, head_tokens, condition_tokens, line_tokens, line_bytes}
+use Rattle.printer.specs.Printed.{effect_tokens, comparison_tokens, joined_by, head_tokens, condition_tokens, line_tokens, line_bytes}
 use Rattle.printer.specs.Steps.Value.{test_token, comparison_text, linked, heads_text, condition_text, effect_text, ending_text, value_text}
 
 -- tokens with a space before each
@@ -34,10 +33,7 @@ module _ {A : Type 0} (tokens : A → List Token) (text : A → List ℕ) (sep :
   further : (x : A) (xs : List A) → spaced (joined_by sep (tokens x ∷ map tokens xs)) ≡ 32 ∷ text x ++ linked text (32 ∷ sep ++ 32 ∷ []) (32 ∷ sep ++ 32 ∷ []) xs
   unfolding joined_by spaced linked
   further x [] = sym (same x) ∙ ap (λ (s : List ℕ). 32 ∷ s) (sym (append-nil (text x)))
-  further x (y ∷ ys) =
-      let rest : List Token = joined_by sep (tokens y ∷ map tokens ys) in
-      let split : spaced (tokens x ++ (sep ∷ rest)) ≡ spaced (tokens x) ++ ((32 ∷ sep) ++ spaced rest) = spaced_append (tokens x) (sep ∷ rest) in
-      split ∙ ap₂ (λ (a b : List ℕ). a ++ ((32 ∷ sep) ++ b)) (sym (same x)) (further y ys) ∙ (simp append_assoc)
+  further x (y ∷ ys) = grind (arith, spaced, spaced_append, append_assoc, further y ys)
 
 token_spaced : (t : Token) → 32 ∷ t ≡ spaced (t ∷ [])
 unfolding spaced
@@ -59,38 +55,18 @@ condition_spaced (c ∷ cs) = ap (λ (s : List ℕ). 32 ∷ 105 ∷ 102 ∷ s) (
 
 effect_spaced : (x : Effect) → spaced (effect_tokens x) ≡ effect_text x
 unfolding effect_tokens effect_text bytes spaced
-effect_spaced (Effect.Causes a) = ap (λ (s : List ℕ). bytes " causes " ++ s) (append-nil (action_token a))
-effect_spaced (Effect.Triggers e) = ap (λ (s : List ℕ). bytes " triggers " ++ s) (append-nil (event_token e))
+effect_spaced x = grind (arith, append-nil)
 
 linked_map : {A B : Type 0} (text : B → List ℕ) (f : A → B) (first next : List ℕ) (xs : List A) → linked text first next (map f xs) ≡ linked (λ x. text (f x)) first next xs
 unfolding linked
 linked_map text f first next [] = refl
 linked_map text f first next (x ∷ xs) = ap (λ (s : List ℕ). first ++ text (f x) ++ s) (linked_map text f next next xs)
 
-grouped : (a b c d e : List ℕ) → (a ++ (b ++ (c ++ d))) ++ e ≡ a ++ b ++ c ++ d ++ e
-grouped a b c d e = simp append_assoc
-
 -- a line of one or more heads; 32 stands before both sides
 line_spaced : (l : PolicyLine) → 0 < length (heads_of l)
     → (32 ∷ line_bytes l) ++ 10 ∷ [] ≡ 32 ∷ ending_text (ending_of l) (heads_text (heads_of l)) (condition_text (comparisons_of l))
 unfolding line_bytes line_tokens heads_of comparisons_of ending_of ending_text spaced bytes test_token
-line_spaced (rule r) h =
-    let heads : List Token = head_tokens literal_token r.literals in
-    let rest : List Token = effect_tokens r.effect ++ condition_tokens r.comparisons in
-    let all : spaced (heads ++ rest) ≡ (32 ∷ linked literal_token [] (bytes " & ") r.literals) ++ spaced rest =
-    spaced_append heads rest ∙ ap (λ (s : List ℕ). s ++ spaced rest) (heads_spaced literal_token r.literals (omega (arith, length-map r.literals Test.Occurs))) in
-    let name : linked test_token [] (bytes " & ") (map Test.Occurs r.literals) ≡ linked literal_token [] (bytes " & ") r.literals = linked_map test_token Test.Occurs [] (bytes " & ") r.literals in
-    ap (λ (s : List ℕ). s ++ 10 ∷ []) (spaced_joined (heads ++ rest) (some_tokens (rule r)) ∙ all)
-    ∙ rw (name, spaced_append (effect_tokens r.effect) (condition_tokens r.comparisons), effect_spaced r.effect, condition_spaced r.comparisons)
-    (ap (λ (s : List ℕ). 32 ∷ s) (grouped [] (linked literal_token [] (bytes " & ") r.literals) (effect_text r.effect) (condition_text r.comparisons) (10 ∷ [])))
-line_spaced (constraint c) h =
-    let heads : List Token = head_tokens action_token c.actions in
-    let rest : List Token = condition_tokens c.comparisons in
-    let all : spaced (heads ++ rest) ≡ (32 ∷ linked action_token [] (bytes " & ") c.actions) ++ spaced rest =
-    spaced_append heads rest ∙ ap (λ (s : List ℕ). s ++ spaced rest) (heads_spaced action_token c.actions (omega (arith, length-map c.actions Test.Member))) in
-    let name : linked test_token [] (bytes " & ") (map Test.Member c.actions) ≡ linked action_token [] (bytes " & ") c.actions = linked_map test_token Test.Member [] (bytes " & ") c.actions in
-    ap (λ (s : List ℕ). s ++ 10 ∷ []) (spaced_joined (bytes "never" ∷ heads ++ rest) (omega arith) ∙ ap (λ (s : List ℕ). (32 ∷ bytes "never") ++ s) all)
-    ∙ rw (name, condition_spaced c.comparisons) (ap (λ (s : List ℕ). 32 ∷ s) (grouped [] (bytes "never ") (linked action_token [] (bytes " & ") c.actions) (condition_text c.comparisons) (10 ∷ [])))
+line_spaced l h = grind (arith, heads_spaced, length-map, linked_map, append_assoc, spaced_append, spaced_joined, some_tokens, effect_spaced, condition_spaced)
 
 pub value_text_is : (l : PolicyLine) → valid l ≡ true → value_text l ≡ line_bytes l ++ 10 ∷ []
 unfolding value_text

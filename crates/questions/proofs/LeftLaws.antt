@@ -1,7 +1,6 @@
 -- What a question is answered, and what is answered along the rest of the input.
-use Rattle.std.specs.Prelude.{Option, Some, None, Result, Ok, Err}
 use Rattle.std.specs.Result.{result_map_both}
-use Rattle.std.proofs.Common.{ℕ, ◌≤◌, Bool, true, false, List, [], append-nil, ◌≡◌, refl, sym, ap, ◌∙◌, arith, lt-ltb, length, length-take, take, take_all, cond, ◌∷◌, ◌++◌, ap₂, append_assoc}
+use Rattle.std.proofs.Common.{ℕ, ◌≤◌, Bool, true, false, List, [], append-nil, ◌≡◌, refl, sym, ap, ◌∙◌, arith, lt-ltb, length, length-take, take, take_all, cond, ◌∷◌, ◌++◌, ap₂, append_assoc, Option, Some, None, Result, Ok, Err}
 use Rattle.policy.specs.Fault.{refusal}
 use Rattle.policy.specs.Set.{EventSet}
 use Rattle.policy.specs.Policy.{Policy}
@@ -71,8 +70,8 @@ pub record Compiled (image : List ℕ) (texts : Result Policy Refusal) : Type 0 
   pub is : image ≡ image_of newest_form policy
 
 pub compiled_read : (image : List ℕ) (read : Result Policy Refusal) → result_map_both (image_of newest_form) (λ x. x) read ≡ Ok image → Compiled image read
-compiled_read image (Ok p) k = let i : image ≡ image_of newest_form p = cc in record { policy = p; read = refl; is = i }
-compiled_read image (Err x) k = let w : ⊥ = cc in absurd w
+compiled_read image (Ok p) k = record { policy = p; read = refl; is = cc }
+compiled_read image (Err x) k = absurd cc
 
 module _ (maker site image : List ℕ) (k : Compiled image (read_texts newest_form maker site)) where
   on_texts : (pending : EventSet) (e : List ℕ) (n : ℕ) → explained_on maker site pending e n image ≡ explained maker site pending e n
@@ -115,16 +114,8 @@ module _ (maker site : List ℕ) where
     same_left : (rest : List ℕ) (n : ℕ) (s : Names) (l : List ℕ) (s' : Names) (l' : List ℕ) → Alike s l s' l' → answers_behind maker site last n s l rest ≡ answers_behind maker site last n s' l' rest
     unfolding answers_from
     same_left [] n s l s' l' h = tells n s l s' l' (alike_here s l s' l' h)
-    same_left (b ∷ rest) n s l s' l' h = go (is_line_end b) (same_left rest n s (l ++ b ∷ []) s' (l' ++ b ∷ []) (λ more. rw (append_assoc l (b ∷ []) more, append_assoc l' (b ∷ []) more) (h (b ∷ more))))
-      where
-        goes : Bool → Names → List ℕ → List ℕ
-        goes t s l = answers_from maker site last n s (cond t (l ∷ ended_behind [] rest) (ended_behind (l ++ b ∷ []) rest)) (cond t (open_behind [] rest) (open_behind (l ++ b ∷ []) rest))
-
-        go : (t : Bool) → answers_behind maker site last n s (l ++ b ∷ []) rest ≡ answers_behind maker site last n s' (l' ++ b ∷ []) rest → goes t s l ≡ goes t s' l'
-        go true more =
-            ap (λ a. explained_line (next_number n) a ++ answers_behind maker site last (next_number n) Names.Nothing [] rest)
-            (same_answer maker site s l s' l' (alike_here s l s' l' h))
-        go false more = more
+    same_left (b ∷ rest) n s l s' l' h =
+        grind (arith, same_left rest n s (l ++ b ∷ []) s' (l' ++ b ∷ []) (λ more. rw (append_assoc l (b ∷ []) more, append_assoc l' (b ∷ []) more) (h (b ∷ more))), same_answer maker site s l s' l' (alike_here s l s' l' h))
 
     module _ (n : ℕ) (s : Names) (line part : List ℕ) (none : HasNoEnd part) where
       part_answers : (rest : List ℕ) → answers_behind maker site last n s line (part ++ rest) ≡ answers_behind maker site last n s (line ++ part) rest
@@ -154,13 +145,13 @@ module _ (maker site : List ℕ) where
   ends_none : (n : ℕ) (lines : List (List ℕ)) (line : List ℕ) → answers_from maker site (no_line maker site) n Names.Nothing lines line ≡ answer_lines maker site n lines
   unfolding answers_from answer_lines
   ends_none n [] line = refl
-  ends_none n (l ∷ lines) line = ap₂ (λ a more. explained_line (next_number n) a ++ more) (answer_first l) (ends_none (next_number n) lines line)
+  ends_none n (l ∷ lines) line = grind (arith, answer_first l, ends_none (next_number n) lines line)
 
   ends_last : (n : ℕ) (lines : List (List ℕ)) (line : List ℕ) → answers_from maker site (last_line maker site) n Names.Nothing lines line ≡ answer_lines maker site n (lines ++ Lined.last_line line)
   unfolding answers_from answer_lines
   ends_last n [] [] = refl
-  ends_last n [] (b ∷ line) = ap (explained_line (next_number n)) (answer_first (b ∷ line)) ∙ sym (append-nil _)
-  ends_last n (l ∷ lines) line = ap₂ (λ a more. explained_line (next_number n) a ++ more) (answer_first l) (ends_last (next_number n) lines line)
+  ends_last n [] (b ∷ line) = grind (arith, answer_first (b ∷ line), append-nil)
+  ends_last n (l ∷ lines) line = grind (arith, answer_first l, ends_last (next_number n) lines line)
 
 -- what is printed from the start is what is printed for two texts that are accepted
 module _ (maker site : List ℕ) (p : Policy) (r : read_texts newest_form maker site ≡ Ok p) where

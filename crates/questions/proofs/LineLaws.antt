@@ -1,10 +1,9 @@
 -- What is held of a line asks what the line asks, whatever both go on with.
-use Rattle.std.proofs.Common.{ℕ, zero, suc, ◌+◌, ◌-◌, ◌≤◌, Bool, true, false, not, cond, ◌&&◌, List, [], ◌∷◌, ◌++◌, append_assoc, append-nil, ◌≡◌, refl, sym, ap, ◌∙◌, arith, fold, length, length-take-le, set, take, take_all, min, ltb}
+use Rattle.std.proofs.Common.{ℕ, zero, suc, ◌+◌, ◌-◌, ◌≤◌, Bool, true, false, not, cond, ◌&&◌, List, [], ◌∷◌, ◌++◌, append_assoc, append-nil, ◌≡◌, refl, sym, ap, ◌∙◌, arith, fold, length, length-take-le, set, take, take_all, min, ltb, take-take}
 use Rattle.std.proofs.lemmas.Grind.{take-set_at}
-use Rattle.std.proofs.lemmas.List.{take-take}
 use Rattle.std.proofs.Math.Seq.{take-append_seam}
 use Rattle.policy.proofs.ListLaws.{and_in, and_out, all_append, true_false}
-use Rattle.policy.specs.List.{all}
+use Rattle.std.specs.List.{list_all}
 use Rattle.lexer.proofs.LeadingLaws.{leading_joined, leading_length, leading_pass, leading_ends}
 use Rattle.lexer.specs.Byte.{is_space, is_digit}
 use Rattle.lexer.specs.Lines.{take_leading, drop_leading}
@@ -22,8 +21,7 @@ unfolding matter
 matters n l n' l' b a p = rw (b, a, p) refl
 
 begun_same : (n : Names) (l l' : List ℕ) → is_empty l ≡ is_empty l' → is_begun n l ≡ is_begun n l'
-begun_same Names.Nothing l l' e = ap not e
-begun_same (Names.Ended asked) l l' e = refl
+begun_same n l l' e = grind arith
 
 -- ---- the word in front
 
@@ -47,29 +45,27 @@ name_set held size b last l h k f = rw (name_step held size b (omega arith), f, 
 
 -- ---- a first word
 
-word_front : (w rest : List ℕ) → all in_word w ≡ true → word_of (w ++ rest) ≡ w ++ word_of rest
+word_front : (w rest : List ℕ) → list_all in_word w ≡ true → word_of (w ++ rest) ≡ w ++ word_of rest
 unfolding word_of
 word_front [] rest h = refl
-word_front (b ∷ w) rest h = let p = and_out (in_word b) (all in_word w) h in rw p.0 (ap (λ t. b ∷ t) (word_front w rest p.1))
+word_front (b ∷ w) rest h = grind (arith, word_front w rest)
 
-epoch_front : (w rest : List ℕ) → all in_word w ≡ true → epoch_part (w ++ rest) ≡ epoch_part rest
+epoch_front : (w rest : List ℕ) → list_all in_word w ≡ true → epoch_part (w ++ rest) ≡ epoch_part rest
 unfolding epoch_part
 epoch_front [] rest h = refl
-epoch_front (b ∷ w) rest h = let p = and_out (in_word b) (all in_word w) h in rw p.0 (epoch_front w rest p.1)
+epoch_front (b ∷ w) rest h = grind (arith, epoch_front w rest)
 
 -- words that tell the same, whatever they go on with, are alike in front of any bytes
-words_matter : (n : Names) (v : List ℕ) (n' : Names) (w rest : List ℕ) → all in_word v ≡ true → all in_word w ≡ true → ((u : List ℕ) → is_begun n (v ++ u) ≡ is_begun n' (w ++ u))
+words_matter : (n : Names) (v : List ℕ) (n' : Names) (w rest : List ℕ) → list_all in_word v ≡ true → list_all in_word w ≡ true → ((u : List ℕ) → is_begun n (v ++ u) ≡ is_begun n' (w ++ u))
     → ((u : List ℕ) → asked_in n (names_in (v ++ u)) ≡ asked_in n' (names_in (w ++ u))) → matter n (v ++ rest) ≡ matter n' (w ++ rest)
 words_matter n v n' w rest h k begun asked =
     matters n _ n' _ (begun rest)
     (ap (λ t. asked_in n (names_in t)) (word_front v rest h) ∙ asked (word_of rest) ∙ ap (λ t. asked_in n' (names_in t)) (sym (word_front w rest k)))
     (ap (take epoch_held) (epoch_front v rest h ∙ sym (epoch_front w rest k)))
 
-all_in_word : (w : List ℕ) → all in_name w ≡ true → all in_word w ≡ true
+all_in_word : (w : List ℕ) → list_all in_name w ≡ true → list_all in_word w ≡ true
 all_in_word [] h = refl
-all_in_word (b ∷ w) h =
-    let (p, q) = and_out (in_name b) (all in_name w) h in
-    and_in (and_out (in_word b) _ p).0 (all_in_word w q)
+all_in_word (b ∷ w) h = grind (arith, all_in_word w)
 
 -- ---- as much of a line as is held
 
@@ -86,19 +82,12 @@ cut_line : (l : List ℕ) (m : ℕ) (rest : List ℕ) → length (word_of l) + 1
 unfolding word_of epoch_part
 cut_line l zero rest h = absurd (omega (arith, h))
 cut_line [] (suc m) rest h = record { empty = refl; word = refl; epoch = refl }
-cut_line (b ∷ s) (suc m) rest h = go (is_space b) refl h (cut_line s m rest)
-  where
-    go : (x : Bool) → is_space b ≡ x → length (cond (not x) (b ∷ word_of s) []) + 1 + epoch_held ≤ suc m → (length (word_of s) + 1 + epoch_held ≤ m → Cut m s rest) → Cut (suc m) (b ∷ s) rest
-    go true e h more = record { empty = refl; word = rw e refl; epoch = rw e (cut_epoch m s rest (omega (arith, h))) }
-    go false e h more =
-        let c = more (omega (arith, h)) in
-        record { empty = refl; word = rw e (ap (λ t. b ∷ t) c.word); epoch = rw e c.epoch }
+cut_line (b ∷ s) (suc m) rest h = grind (arith, cut_line s m rest, cut_epoch m s rest)
 
-word_stays : (l part : List ℕ) → all in_word l ≡ false → word_of (l ++ part) ≡ word_of l
+word_stays : (l part : List ℕ) → list_all in_word l ≡ false → word_of (l ++ part) ≡ word_of l
 unfolding word_of
-word_stays [] part h = absurd (true_false refl h)
-word_stays (b ∷ l) part h =
-    elim (in_word b) as (λ x. x && all in_word l ≡ false → cond x (b ∷ word_of (l ++ part)) [] ≡ cond x (b ∷ word_of l) []) [ true ↦ λ e. ap (λ t. b ∷ t) (word_stays l part e) | false ↦ λ e. refl ] h
+word_stays [] part h = cc
+word_stays (b ∷ l) part h = grind (arith, word_stays l part)
 
 word_empty : word_of [] ≡ []
 unfolding word_of
@@ -110,7 +99,7 @@ unfolding word_of
 nothing_short = record { few = omega arith; one = refl }
 
 -- where all of a line is its word
-pub held_word : (l : List ℕ) → all in_word l ≡ true → word_of l ≡ l
+pub held_word : (l : List ℕ) → list_all in_word l ≡ true → word_of l ≡ l
 held_word l h = ap word_of (sym (append-nil l)) ∙ word_front l [] h ∙ ap (λ w. l ++ w) word_empty ∙ append-nil l
 
 -- what is held behind a part
@@ -127,7 +116,7 @@ module _ (m : ℕ) (enough : line_held ≤ m) (names : Names) (l part : List ℕ
       })
 
   -- of a word, or of a line whose word has ended
-  pub word_goes : Short l → all in_word l ≡ true → (w : List ℕ) → record { names = names'; name = w } ≡ fold with_byte (record { names = names; name = l }) (take_leading in_word part) → l' ≡ take m (w ++ drop_leading in_word part)
+  pub word_goes : Short l → list_all in_word l ≡ true → (w : List ℕ) → record { names = names'; name = w } ≡ fold with_byte (record { names = names; name = l }) (take_leading in_word part) → l' ≡ take m (w ++ drop_leading in_word part)
       → Goes names l part names' l'
   unfolding word_of
   word_goes h whole w e is =
@@ -137,7 +126,7 @@ module _ (m : ℕ) (enough : line_held ≤ m) (names : Names) (l part : List ℕ
       let passes = leading_pass in_word part in
       let start : Open = record { names = names; name = l } in
       let m : More start v (record { names = names'; name = w }) = rw e (word_more v start (rw (← same) h.few) (rw (← same) h.one) passes) in
-      let all_word : all in_word w ≡ true = all_in_word w m.one in
+      let all_word : list_all in_word w ≡ true = all_in_word w m.one in
       let front : word_of (w ++ t) ≡ w = word_front w t all_word ∙ ap (λ x. w ++ x) (leading_ends in_word part) ∙ append-nil w in
       goes (w ++ t) (record { few = rw front m.few; one = rw front m.one })
       (λ rest.
@@ -146,7 +135,7 @@ module _ (m : ℕ) (enough : line_held ≤ m) (names : Names) (l part : List ℕ
       ∙ ap (matter names) (sym (append_assoc (l ++ v) t rest) ∙ ap (λ x. x ++ rest) (append_assoc l v t ∙ ap (λ x. l ++ x) (leading_joined in_word part))))
       is
 
-pub line_goes : (m : ℕ) → line_held ≤ m → (names : Names) (l part l' : List ℕ) → Short l → all in_word l ≡ false → l' ≡ take m (l ++ part) → Goes names l part names l'
+pub line_goes : (m : ℕ) → line_held ≤ m → (names : Names) (l part l' : List ℕ) → Short l → list_all in_word l ≡ false → l' ≡ take m (l ++ part) → Goes names l part names l'
 line_goes m enough names l part l' h e is =
     let stays = word_stays l part e in
     goes m enough names l part names l' (l ++ part) (record { few = rw stays h.few; one = rw stays h.one }) (λ rest. refl) is

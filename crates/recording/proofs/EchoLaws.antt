@@ -1,5 +1,5 @@
 -- What a call adds to what went out, and what a conversation with an echo leaves of a tape.
-use Rattle.std.proofs.Common.{◌≡◌, ℕ, List, [], ◌∷◌, ◌++◌, take, drop, refl, sym, ap, ◌∙◌, append-nil}
+use Rattle.std.proofs.Common.{◌≡◌, ℕ, List, [], ◌∷◌, ◌++◌, take, drop, sym, ap, ◌∙◌, append-nil}
 use Rattle.stream.specs.Event.{Event, came, went, came_in, went_out}
 use Rattle.stream.specs.Machine.{AnswersAll}
 use Rattle.stream.proofs.EventLaws.{went_out_append}
@@ -27,7 +27,3 @@ module _ (echo : Echo) (none : echo.used ≡ 0) where
         went = ap went_out same ∙ all.went ∙ echoes all.bytes ∙ sym all.whole;
         prompt = λ before call after split read. all.prompt before call after (sym same ∙ split) read ∙ echoes (came_in before);
       }
-
--- a second read before what came has gone
-pub late_is_refused : (input first second : List ℕ) (calls : List Event) → ¬ (first ≡ []) → ¬ Echoed input (came first ∷ came second ∷ calls)
-late_is_refused input first second calls some e = some (sym (append-nil first) ∙ sym (e.prompt (came first ∷ []) (came second) calls refl tt))

@@ -1,6 +1,5 @@
 -- What is kept of bytes are their first.
-use Rattle.std.proofs.Common.{◌≡◌, ℕ, ◌≤◌, List, length, take, min, sym, ap, ◌∙◌, arith, length-take-le, take-take}
-use Rattle.std.proofs.lemmas.List.{length-take}
+use Rattle.std.proofs.Common.{◌≡◌, ℕ, ◌≤◌, List, length, take, min, sym, ap, ◌∙◌, arith, length-take-le, take-take, length-take}
 
 pub kept_few : (n k : ℕ) (xs ys : List ℕ) → n ≤ length xs → take n xs ≡ take k ys → n ≡ min k (length ys)
 kept_few n k xs ys h e = sym (length-take-le n xs h) ∙ ap length e ∙ length-take k ys

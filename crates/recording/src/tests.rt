@@ -20,11 +20,13 @@ impl<R: Abort + Drop> Ends for Recorder<R> {
 
     ghost known = { λ s. known_of s.tape };
 
+    #[tactic(auto, using(crate::proofs::EchoLaws::read_keeps))]
     fn read(&mut self, buffer: &mut [u8]) -> io::Result<usize> {
         assert!(self.rt; !self.tape.log.is_full());
         Ok(self.tape.read(buffer))
     }
 
+    #[tactic(auto, using(crate::proofs::EchoLaws::write_adds))]
     fn write(&mut self, bytes: &[u8]) -> io::Result<usize> {
         assert!(self.rt; !self.tape.log.is_full());
         Ok(self.tape.log.push(false, bytes))

@@ -15,12 +15,7 @@ pub fault_digits : (f : Fault) → length (decimal (fault_number f)) ≤ 2
 fault_digits f = decimal_few (fault_number f) 1 (omega (arith, fault_number_small f))
 
 source_digits : (s : Source) → length (decimal (source_number s)) ≤ 1
-source_digits s = decimal_few (source_number s) 0 (small s)
-  where
-    small : (s : Source) → source_number s < 10 ^ 1
-    small Source.Neither = omega arith
-    small Source.Maker = omega arith
-    small Source.Site = omega arith
+source_digits s = decimal_few (source_number s) 0 (grind arith)
 
 -- ---- refused texts
 

@@ -1,4 +1,3 @@
 pub mod ActionLaws
 pub mod Examples
 pub mod LengthLaws
-pub mod SourceLaws

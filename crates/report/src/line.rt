@@ -38,6 +38,7 @@ pub fn put_refusal<S: Sink>(sink: &mut S, refusal: Refusal)
 }
 
 /// Puts the refusal of a text of two, or of both, as `refused 3 text 2 line 1`: text 1 is the maker's, 2 the site's, 0 neither alone.
+#[tactic(auto, unfolding(crate::specs::Report::texts_refusal_line, output::specs::Number::digits, output::specs::Number::decimal, lexer::specs::Byte::bytes))]
 pub fn put_texts_refusal<S: Sink>(sink: &mut S, refusal: Refusal)
     ensures { sink.new ≡ fed S.taken sink.old (texts_refusal_line refusal) }
 {

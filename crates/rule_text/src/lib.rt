@@ -37,6 +37,7 @@ fn with_line(counts: LineCounts, line: &Line) -> LineCounts
 }
 
 // The counts of a text with one line more.
+#[tactic(auto, unfolding(crate::specs::Steps::Tally::tallied_by, crate::specs::Steps::Tally::tally_as))]
 fn tallied(counts: PerPart<LineCounts>, line: &Line) -> Result<PerPart<LineCounts>, Fault>
     requires { Small counts }
     ensures { result ≡ tallied_by counts line.now }
@@ -52,6 +53,7 @@ fn tallied(counts: PerPart<LineCounts>, line: &Line) -> Result<PerPart<LineCount
 
 // The lines of a text, counted behind those before it. A refusal names no text.
 #[inline(always)]
+#[tactic(auto, using(crate::proofs::TextLaws::behind_long, crate::proofs::TextLaws::behind_short, crate::proofs::TextLaws::count_over, crate::proofs::TextLaws::count_turn, syntax::proofs::WalkLaws::advanced, syntax::proofs::WalkLaws::no_more, syntax::proofs::WalkLaws::refused_first), unfolding(crate::specs::Steps::Counting::count_lines))]
 fn read_behind(
     form: u8,
     before: PerPart<LineCounts>,
@@ -91,6 +93,7 @@ pub fn read_text(form: u8, text: &[u8]) -> Result<PerPart<LineCounts>, Refusal>
 }
 
 /// The maker's and the site's text as one: all faults of the maker's come before those of the site's.
+#[tactic(auto, using(crate::proofs::TextLaws::read_small, crate::proofs::TextLaws::maker_refused))]
 pub fn read_texts(form: u8, maker: &[u8], site: &[u8]) -> Result<PerPart<LineCounts>, Refusal>
     ensures { result ≡ texts_read form maker.now site.now }
 {

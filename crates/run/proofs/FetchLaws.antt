@@ -1,6 +1,6 @@
 -- Laws of the number of words that are fetched. A run fetches at most as many as there are, and one more where the last of them has a
 -- constant.
-use Rattle.std.proofs.Common.{ℕ, zero, suc, ◌+◌, ◌-◌, ◌≤◌, Bool, true, false, cond, List, [], ◌∷◌, ◌≡◌, refl, ap, arith, length}
+use Rattle.std.proofs.Common.{ℕ, zero, suc, ◌+◌, ◌-◌, ◌≤◌, Bool, cond, List, [], ◌∷◌, ◌≡◌, arith, length}
 use Rattle.policy.specs.Set.{ActionSet}
 use Rattle.policy.specs.declared.epoch.Readings.{Readings}
 use Rattle.policy.specs.declared.set.Events.{Events}
@@ -13,11 +13,7 @@ use Rattle.run.proofs.TestLaws.{constants_small}
 pub fetches_up_to : (p : LinePart) (rest : List LinePart)
     → fetches (up_to ends_constraint (p ∷ rest)) ≡ 1 + constants_of p + cond (ends_constraint p) 0 (fetches (up_to ends_constraint rest))
 unfolding up_to fetches
-fetches_up_to p rest = ap (λ (n : ℕ). 1 + constants_of p + n) (go (ends_constraint p))
-  where
-    go : (b : Bool) → fetches (cond b [] (up_to ends_constraint rest)) ≡ cond b 0 (fetches (up_to ends_constraint rest))
-    go true = refl
-    go false = refl
+fetches_up_to p rest = grind arith
 
 -- ---- as many as there are
 
@@ -28,8 +24,7 @@ last_constants (w ∷ []) = constants_of (says w 0)
 last_constants (w ∷ v ∷ ws) = last_constants (v ∷ ws)
 
 pub last_behind : (w : ℕ) (ws : List ℕ) → 1 ≤ length ws → last_constants (w ∷ ws) ≡ last_constants ws
-last_behind w [] h = absurd (omega arith)
-last_behind w (v ∷ ws) h = refl
+last_behind w ws h = grind arith
 
 last_small : (ws : List ℕ) → last_constants ws ≤ 1
 last_small [] = omega arith
@@ -49,11 +44,7 @@ module _ (test : LinePart → Bool) where
 up_to_fetches : (test : LinePart → Bool) (ps : List LinePart) → fetches (up_to test ps) ≤ fetches ps
 unfolding up_to fetches
 up_to_fetches test [] = omega arith
-up_to_fetches test (p ∷ ps) = go (test p) (up_to_fetches test ps)
-  where
-    go : (b : Bool) → fetches (up_to test ps) ≤ fetches ps → fetches (p ∷ cond b [] (up_to test ps)) ≤ fetches (p ∷ ps)
-    go true h = omega arith
-    go false h = omega arith
+up_to_fetches test (p ∷ ps) = grind (arith, up_to_fetches test ps)
 
 -- ---- of a part
 

@@ -1,10 +1,18 @@
 -- Laws of running words: one word that is run, over a list of words with an index.
-use Rattle.std.proofs.Common.{ℕ, zero, suc, ◌+◌, ◌≤◌, ◌<◌, Bool, cond, List, [], ◌∷◌, ◌≡◌, refl, sym, ap, ap₂, ◌∙◌, add-one, add-zero, arith, length, drop, drop_of_length-le, drop-cons, drop-drop, get_or-drop}
-use Rattle.std.proofs.Math.ListN.{get_or}
-use Rattle.operation.specs.Fields.{skip_of}
-use Rattle.operation.specs.Said.{says, constants_of}
+use Rattle.std.proofs.Common.{ℕ, zero, suc, ◌+◌, ◌≤◌, ◌<◌, Bool, false, cond, List, [], ◌∷◌, ◌≡◌, refl, ap, ◌∙◌, add-one, add-zero, arith, length, drop, drop_of_length-le, drop-cons, drop-drop, get_or-drop, get_or}
+use Rattle.operation.specs.Fields.{skip_of, operation_of}
+use Rattle.operation.specs.Parts.{constant_comparison}
+use Rattle.operation.specs.Said.{says, says_by, constants_of}
+use Rattle.operation.specs.Whole.{ends, ends_line}
+use Rattle.operation.specs.declared.operation.Operation.{Operation}
+use Rattle.policy.specs.declared.line.Part.{Part}
 use Rattle.operation.specs.declared.said.LinePart.{LinePart}
-use Rattle.run.specs.Run.{passes, ran}
+use Rattle.run.specs.Run.{ran}
+
+-- a constant is fetched for a comparison with one, which ends no line
+pub constant_on : (part : Part) (w k : ℕ) → operation_of w ≡ Operation.AgainstConstant → (ends_line part (says w k) ≡ false) × (constants_of (says w k) ≡ 1)
+unfolding says says_by ends ends_line constants_of constant_comparison
+constant_on part w k o = grind arith
 
 module _ (test : LinePart → Bool) where
   -- words that are passed over
@@ -33,12 +41,4 @@ module _ (test : LinePart → Bool) where
     pub turn : (next : ℕ) (holds : Bool) → holds ≡ test said → next ≡ at + 1 + constants_of said + cond holds 0 (skip_of w)
         → ran test 0 (drop at ws) ≡ said ∷ ran test 0 (drop next ws)
     unfolding ran
-    turn next holds h e =
-        ap (ran test 0) rest_at
-        ∙ ap₂ (λ (x k : ℕ). says x k ∷ ran test (passes (test (says x k)) (says x k) x) (drop (at + 1) ws)) (sym this) behind
-        ∙ ap (λ (b : Bool). said ∷ ran test (passes b said w) (drop (at + 1) ws)) (sym h)
-        ∙ ap (λ (l : List LinePart). said ∷ l) (ran_pass (passes holds said w) (drop (at + 1) ws) ∙ ap (ran test 0) (drop-drop (passes holds said w) (at + 1) ws))
-        ∙ ap (λ (n : ℕ). said ∷ ran test 0 (drop n ws)) (same ∙ sym e)
-      where
-        same : at + 1 + passes holds said w ≡ at + 1 + constants_of said + cond holds 0 (skip_of w)
-        same = omega arith
+    turn next holds h e = grind (arith, rest_at, behind, ran_pass, drop-drop)

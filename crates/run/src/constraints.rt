@@ -89,6 +89,7 @@ fn left_at(words: &[[u8; 4]], at: usize, from: usize) -> Trial
 // A constraint's members come before its comparisons, so they have a loop of their own, which tests for no other operation. No word
 // is asked whether it is the last: behind one that ends no line stands another of its line. The index that goes on is the one behind the
 // next word, and the words are counted, as in the run of rules.
+#[tactic(auto, using(crate::proofs::TestLaws::constants_small))]
 pub fn run_constraints(words: &[[u8; 4]], set: ActionSet, readings: &Readings) -> Trial
     requires whole { whole_lines Part.Constraints (words_in words.now) ≡ true }
     ensures conflict { result.conflict ≡ run_constraints readings.now set (words_in words.now) }

@@ -81,6 +81,7 @@ pub struct Yielded {
 // each word took an instruction more. Every word before the next was fetched or passed over by a failed test, so that it is enough to
 // move `from` along by what such a test passes over.
 #[inline(always)]
+#[tactic(auto, using(crate::proofs::TestLaws::constants_small))]
 pub fn run_rules(words: &[[u8; 4]], events: Events, readings: &Readings) -> Yielded
     requires whole { whole_lines Part.Rules (words_in words.now) ≡ true }
     ensures effects { result.effects ≡ run_rules events readings.now (words_in words.now) }

@@ -95,7 +95,7 @@ impl Waiting {
     }
 
     // How many words were fetched in the lines before one.
-    #[tactic(auto, unfolding(crate::specs::Steps::Wait::fetched))]
+    #[tactic(auto, using(crate::proofs::StandLaws::fetched_next), unfolding(crate::specs::Steps::Wait::fetched))]
     fn fetched(&self, line: usize) -> usize
         requires few { line ≤ 64 }
         requires small { fetched self.now.starts self.now.behind line ≤ 65535 }

@@ -1,15 +1,10 @@
 -- Laws of the text: its lines one by one, of which no more is kept than tells that the text is too long.
-use Rattle.std.specs.Prelude.{Option, Some, None, Result, Ok, Err}
-use Rattle.std.proofs.Common.{◌≡◌, ℕ, List, [], ◌∷◌, ◌++◌, take, refl, sym, ap, ◌∙◌, append_assoc, append-nil}
-use Rattle.std.proofs.lemmas.Option.{none-some}
-use Rattle.policy.specs.Policy.{Policy}
-use Rattle.policy.specs.declared.fault.Refusal.{Refusal}
+use Rattle.std.proofs.Common.{◌≡◌, ℕ, arith, List, [], ◌∷◌, ◌++◌, take, refl, sym, ap, ◌∙◌, append_assoc, append-nil, Option, Some, None}
 use Rattle.policy.specs.declared.mode.Mode.{Mode}
 use Rattle.acceptance.proofs.Cut.{text_cut}
 use Rattle.codegen.proofs.RoomLaws.{Read}
 use Rattle.codegen.specs.Compile.{newest_form}
 use Rattle.lexer.specs.Byte.{bytes, bytes_equal, is}
-use Rattle.report.specs.Report.{refusal_line}
 use Rattle.rule_text.specs.Text.{read_text}
 use Rattle.stream.proofs.FrontLaws.{cut_before}
 use Rattle.session.specs.Printed.{Session, text_only, with_epochs, mode_of, to_text, split_at_run, ended, epoch_lines, answers_to, printed_for}
@@ -24,7 +19,7 @@ KeptSame x y = take text_held x ≡ take text_held y
 
 pub printed_same : (x y : List ℕ) (s : Session) → KeptSame x y → printed_for x s ≡ printed_for y s
 unfolding printed_for
-printed_same x y s e = ap (λ (r : Result Policy Refusal). answers_to r s) (sym (text_cut newest_form x) ∙ ap (read_text newest_form) e ∙ text_cut newest_form y)
+printed_same x y s e = ap (λ r. answers_to r s) (sym (text_cut newest_form x) ∙ ap (read_text newest_form) e ∙ text_cut newest_form y)
 
 kept_more : (x y more : List ℕ) → KeptSame x y → KeptSame (x ++ more) (y ++ more)
 kept_more x y more e = sym (cut_before text_held x more) ∙ ap (λ (l : List ℕ). take text_held (l ++ more)) e ∙ cut_before text_held y more
@@ -42,18 +37,12 @@ told_same x y lines next e = go next (split_at_run (lines ++ following next))
 -- the lines of the text don't matter where its bytes are told
 to_text_is : (text line : List ℕ) (s : Session) → printed_for text (to_text line s) ≡ printed_for text s
 unfolding printed_for answers_to to_text
-to_text_is text line text_only = refl
-to_text_is text line (with_epochs t mode es) =
-    elim (read_text newest_form text) as (λ p. answers_to p (with_epochs (line ∷ t) mode es) ≡ answers_to p (with_epochs t mode es)) [ Err r ↦ refl | Ok policy ↦ refl ]
+to_text_is text line s = grind arith
 
 module _ (done line : List ℕ) (rest : List (List ℕ)) (next : Option (List ℕ)) where
   told_step : (s : Session) → told_with done (line ∷ rest) next (to_text line s) ≡ told_with (done ++ (line ++ 10 ∷ [])) rest next s
   unfolding to_text ended
-  told_step (with_epochs t mode es) =
-      ap (λ (l : List ℕ). printed_for l (with_epochs (line ∷ t) mode es)) (simp append_assoc) ∙ to_text_is (_ ++ ended t) line (with_epochs t mode es)
-  told_step text_only =
-      elim next as (λ o. told_with done (line ∷ rest) o text_only ≡ told_with (done ++ (line ++ 10 ∷ [])) rest o text_only)
-      [ None ↦ refl | Some last ↦ ap (λ (l : List ℕ). printed_for l text_only) (simp append_assoc) ]
+  told_step s = grind (arith, append_assoc, to_text_is)
 
   -- a line of the text
   pub told_line : mode_of line ≡ None → told_text done (line ∷ rest) next ≡ told_text (done ++ (line ++ 10 ∷ [])) rest next
@@ -70,27 +59,17 @@ module _ (done line : List ℕ) (rest : List (List ℕ)) (next : Option (List �
 -- no epoch follows
 no_epochs : (text : List ℕ) (mode : Mode) → printed_for text (with_epochs [] mode []) ≡ printed_for text text_only
 unfolding printed_for answers_to epoch_lines
-no_epochs text mode = elim (read_text newest_form text) as (λ p. answers_to p (with_epochs [] mode []) ≡ answers_to p text_only) [ Err r ↦ refl | Ok policy ↦ refl ]
+no_epochs text mode = grind arith
 
 pub end_none : (done last : List ℕ) → mode_of last ≡ None → told_text done [] (Some last) ≡ printed_for (done ++ last) text_only
 unfolding split_at_run ended to_text
-end_none done [] e = refl
-end_none done (x ∷ xs) e = rw e
-
-empty_none : (mode : Mode) → mode_of [] ≡ Some mode → ⊥
-unfolding mode_of is bytes bytes_equal
-empty_none mode e = none-some mode e
+end_none done last e = grind (arith, append-nil)
 
 pub end_run : (done last : List ℕ) (mode : Mode) → mode_of last ≡ Some mode → told_text done [] (Some last) ≡ printed_for done text_only
-unfolding split_at_run ended
-end_run done [] mode e = absurd (empty_none mode e)
-end_run done (x ∷ xs) mode e = rw (e, append-nil done) (no_epochs done mode)
+unfolding split_at_run ended mode_of is bytes bytes_equal
+end_run done last mode e = grind (arith, append-nil, no_epochs)
 
 -- ---- the text is complete
-
-pub refused_prints : (text : List ℕ) (x : Refusal) (s : Session) → read_text newest_form text ≡ Err x → printed_for text s ≡ refusal_line x
-unfolding printed_for answers_to
-refused_prints text x s e = rw e
 
 pub accepted_prints : (text image after : List ℕ) (size : ℕ) → after ≡ image → Read newest_form (read_text newest_form text) image size → TextEnds text after (Some size)
 unfolding printed_for answers_to

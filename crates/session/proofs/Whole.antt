@@ -1,9 +1,7 @@
 -- What the lines of the whole input print one by one is what the definition prints for it. And what the compiler lists is what its
 -- definition says.
-use Rattle.std.specs.Prelude.{Option, Some, None, Ok, Err}
-use Rattle.std.proofs.Common.{◌≡◌, ℕ, zero, suc, ◌≤◌, cond, List, [], ◌∷◌, ◌++◌, length, take, refl, sym, ap, ap₂, ◌∙◌, append_assoc, append-nil, arith, eqb-true}
-use Rattle.std.specs.Option.{option_map}
-use Rattle.std.proofs.lemmas.List.{take-take}
+use Rattle.std.proofs.Common.{◌≡◌, ℕ, zero, suc, ◌≤◌, List, [], ◌∷◌, ◌++◌, length, take, refl, sym, ap, ap₂, ◌∙◌, append_assoc, append-nil, arith, eqb-true, Option, Some, None, option_map, take-take}
+use Rattle.policy.specs.Policy.{Policy}
 use Rattle.policy.specs.Set.{no_events}
 use Rattle.policy.specs.declared.mode.Mode.{Mode}
 use Rattle.acceptance.proofs.Cut.{text_cut, texts_cut}
@@ -15,9 +13,8 @@ use Rattle.lined.proofs.InputLaws.{all_lines, cut_last, whole_lines}
 use Rattle.lined.proofs.LineLaws.{cut_again}
 use Rattle.output.specs.Buffer.{appended, behind}
 use Rattle.report.specs.Report.{refusal_line, texts_refusal_line}
-use Rattle.rule_text.specs.Text.{read_text}
 use Rattle.session.specs.Listed.{listing_of, listed, listed_texts}
-use Rattle.session.specs.Printed.{text_only, with_epochs, mode_of, split_at_run, ended, text_part, answers_to, printed_for, printed, has_epochs, runs, due}
+use Rattle.session.specs.Printed.{text_only, with_epochs, mode_of, split_at_run, ended, text_part, answers_to, printed_for, printed, runs, due}
 use Rattle.session.specs.Steps.Session.{following, told_with, told_text, printed_text, given_text}
 use Rattle.session.specs.Steps.Sizes.{listing_size, text_held}
 use Rattle.output.proofs.RoomLaws.{put_take}
@@ -41,9 +38,7 @@ mode_kept line = cut_mode text_held line (omega arith)
 -- the epochs
 epochs_kept : (done : List ℕ) (mode : Mode) (lines : List (List ℕ)) → printed_for done (with_epochs [] mode (cut_to text_held lines)) ≡ printed_for done (with_epochs [] mode lines)
 unfolding printed_for answers_to
-epochs_kept done mode lines =
-    elim (read_text newest_form done) as (λ p. answers_to p (with_epochs [] mode (cut_to text_held lines)) ≡ answers_to p (with_epochs [] mode lines))
-    [ Err r ↦ refl | Ok policy ↦ cut_epochs mode (image_of newest_form policy) text_held (omega arith) no_events 0 lines ]
+epochs_kept done mode lines = grind (arith, λ (policy : Policy). cut_epochs mode (image_of newest_form policy) text_held (omega arith) no_events 0 lines)
 
 last_kept : (done last : List ℕ) (o : Option Mode) → mode_of last ≡ o → told_text done [] (Some (take text_held last)) ≡ told_text done [] (Some last)
 last_kept done last None e =
@@ -83,15 +78,11 @@ pub all_printed : (input : List ℕ) → printed_text [] (cut_to text_held (ende
 unfolding printed text_part
 all_printed input =
     told_kept (Some (open_line input)) (ended_lines input) [] ∙ ap (λ ls. told_with [] (ended_lines input) (Some (open_line input)) (split_at_run ls)) (sym (all_lines input))
-    ∙ elim (split_at_run (lines_of input)) as (λ s. told_with [] (ended_lines input) (Some (open_line input)) s ≡ printed_for (text_part input s) s)
-    [ text_only ↦ ap (λ l. printed_for l text_only) (joined input []) | with_epochs text mode epochs ↦ refl ]
+    ∙ grind (arith, joined input [])
 
 due_told : (part : List ℕ) → told_with [] (lines_of part) None (split_at_run (lines_of part)) ≡ due_for runs printed [] part
 unfolding printed text_part split_at_run lines_of pieces
-due_told [] = refl
-due_told (x ∷ part) =
-    elim (split_at_run (lines_of (x ∷ part))) as (λ s. told_with [] (lines_of (x ∷ part)) None s ≡ cond (has_epochs s) (printed_for (text_part (x ∷ part) s) s) [])
-    [ text_only ↦ refl | with_epochs text mode epochs ↦ refl ]
+due_told part = grind arith
 
 pub all_due : (input : List ℕ) → given_text [] (cut_to text_held (ended_lines input)) ≡ due input
 unfolding due

@@ -102,6 +102,4 @@ module _ {answer answer' due due' : List ℕ → List ℕ} (old new : Known) (sa
 
 -- where nothing is due before the end, no write fails there
 pub listing_ends : (e : Failure) (answer : List ℕ → List ℕ) (old new : Known) → EndsBy e nothing_due answer old new → ListingEndsBy e answer old new
-listing_ends (Read e) answer old new h = h
-listing_ends (Write e) answer old new (inl h) = absurd (omega (arith, h.some))
-listing_ends (Write e) answer old new (inr h) = h
+listing_ends e answer old new h = grind arith

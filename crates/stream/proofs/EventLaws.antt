@@ -1,48 +1,29 @@
 -- Laws of histories, and of how calls end.
-use Rattle.std.proofs.Common.{◌≡◌, ◌+◌, ◌≤◌, ◌⊎◌, inl, inr, ℕ, List, [], ◌∷◌, ◌++◌, All, length, take, drop, refl, sym, ap, ◌∙◌, subst, append_assoc, append-nil, length-append, Option, None, Some, arith}
+use Rattle.std.proofs.Common.{◌≡◌, ◌+◌, ◌≤◌, ◌⊎◌, inl, inr, ℕ, List, [], ◌∷◌, ◌++◌, All, length, take, drop, refl, sym, ap, ◌∙◌, subst, append_assoc, append-nil, length-append, Option, arith}
 use Rattle.std.proofs.lemmas.List.{append_cancel_right, nil_from_length}
-use Rattle.std.proofs.lemmas.List.Elements.{All-nil, All-head, All-tail, All-append, All-push, All-take, All-drop}
+use Rattle.std.proofs.lemmas.List.Elements.{All-head, All-tail, All-append, All-push, All-take, All-drop}
 use Rattle.std.proofs.Math.Seq.{take-append_seam, drop-append_seam}
 use Rattle.stream.specs.declared.failure.Failure.{Failure}
-use Rattle.stream.specs.Event.{Event, came, went, read_failed, write_failed, Logs, came_in, went_out, IsRead, IsWrite, IsPrompt, GoesOn, GoOn, StopsAt, Fails, EndsBehind}
-
-pub logs_nil : (a : Option (List Event)) → Logs a a []
-logs_nil None = tt
-logs_nil (Some es) = sym (append-nil es)
+use Rattle.stream.specs.Event.{Event, came, Logs, came_in, went_out, IsRead, IsWrite, IsPrompt, GoesOn, GoOn, StopsAt, Fails, EndsBehind}
 
 pub logs_trans : (a b c : Option (List Event)) (es fs : List Event) → Logs a b es → Logs b c fs → Logs a c (es ++ fs)
-logs_trans None b c es fs p q = tt
-logs_trans (Some x) None c es fs p q = absurd p
-logs_trans (Some x) (Some y) None es fs p q = absurd q
-logs_trans (Some x) (Some y) (Some z) es fs p q = q ∙ ap (λ l. l ++ fs) p ∙ append_assoc x es fs
+logs_trans a b c es fs p q = grind (arith, append_assoc)
 
 pub came_in_append : (es fs : List Event) → came_in (es ++ fs) ≡ came_in es ++ came_in fs
 came_in_append [] fs = refl
-came_in_append (came xs ∷ es) fs = ap (λ l. xs ++ l) (came_in_append es fs) ∙ sym (append_assoc xs (came_in es) (came_in fs))
-came_in_append (went xs ∷ es) fs = came_in_append es fs
-came_in_append (read_failed e ∷ es) fs = came_in_append es fs
-came_in_append (write_failed e ∷ es) fs = came_in_append es fs
+came_in_append (x ∷ es) fs = grind (arith, append_assoc, came_in_append es fs)
 
 pub went_out_append : (es fs : List Event) → went_out (es ++ fs) ≡ went_out es ++ went_out fs
 went_out_append [] fs = refl
-went_out_append (came xs ∷ es) fs = went_out_append es fs
-went_out_append (went xs ∷ es) fs = ap (λ l. xs ++ l) (went_out_append es fs) ∙ sym (append_assoc xs (went_out es) (went_out fs))
-went_out_append (read_failed e ∷ es) fs = went_out_append es fs
-went_out_append (write_failed e ∷ es) fs = went_out_append es fs
+went_out_append (x ∷ es) fs = grind (arith, append_assoc, went_out_append es fs)
 
 pub reads_out : (es : List Event) → All IsRead es → went_out es ≡ []
 reads_out [] h = refl
-reads_out (came xs ∷ es) h = reads_out es (All-tail IsRead _ es h)
-reads_out (went xs ∷ es) h = absurd (All-head IsRead _ es h)
-reads_out (read_failed e ∷ es) h = reads_out es (All-tail IsRead _ es h)
-reads_out (write_failed e ∷ es) h = absurd (All-head IsRead _ es h)
+reads_out (x ∷ es) h = grind (arith, All-head IsRead x es h, reads_out es (All-tail IsRead x es h))
 
 pub writes_in : (es : List Event) → All IsWrite es → came_in es ≡ []
 writes_in [] h = refl
-writes_in (came xs ∷ es) h = absurd (All-head IsWrite _ es h)
-writes_in (went xs ∷ es) h = writes_in es (All-tail IsWrite _ es h)
-writes_in (read_failed e ∷ es) h = absurd (All-head IsWrite _ es h)
-writes_in (write_failed e ∷ es) h = writes_in es (All-tail IsWrite _ es h)
+writes_in (x ∷ es) h = grind (arith, All-head IsWrite x es h, writes_in es (All-tail IsWrite x es h))
 
 -- ---- at each read all that is due had gone
 
@@ -51,20 +32,12 @@ call_of : (es fs before : List Event) (call : Event) (after : List Event) → es
     → ((rest : List Event) × (es ≡ before ++ call ∷ rest)) ⊎ ((more : List Event) × (before ≡ es ++ more) × (fs ≡ more ++ call ∷ after))
 call_of [] fs before call after e = inr (before, refl, e)
 call_of (x ∷ es) fs [] call after e = inl (es, cc)
-call_of (x ∷ es) fs (y ∷ before) call after e =
-    elim (call_of es fs before call after (cc)) [
-      | inl (rest, is) ↦ inl (rest, cc)
-      | inr (more, is, calls) ↦ inr (more, cc, calls)
-    ]
+call_of (x ∷ es) fs (y ∷ before) call after e = grind (arith, call_of es fs before call after)
 
 prompt_then : (due : List ℕ → List ℕ) (es fs : List Event) → IsPrompt due es
     → ((more : List Event) (call : Event) (after : List Event) → fs ≡ more ++ call ∷ after → IsRead call → went_out (es ++ more) ≡ due (came_in (es ++ more)))
     → IsPrompt due (es ++ fs)
-prompt_then due es fs p q before call after e r =
-    elim (call_of es fs before call after e) [
-      | inl (rest, is) ↦ p before call rest is r
-      | inr (more, is, calls) ↦ rw is (q more call after calls r)
-    ]
+prompt_then due es fs p q before call after e r = grind (arith, call_of)
 
 -- what holds of each call holds of those before one, and of that one
 all_before : (P : Event → Type 0) (es more : List Event) (call : Event) (after : List Event) → es ≡ more ++ call ∷ after → All P es → All P more × P call
@@ -106,9 +79,6 @@ brings_last es bytes all (tries, stops, goes) more call after e =
 
 -- ---- how calls end
 
-pub go_on_nil : GoOn 0 []
-go_on_nil = (All-nil GoesOn, omega arith)
-
 pub go_on_append : (m n k : ℕ) (es fs : List Event) → k ≤ m + n → GoOn m es → GoOn n fs → GoOn k (es ++ fs)
 go_on_append m n k es fs some (p, l) (q, o) = (All-append GoesOn es fs p q, omega (arith, length-append es fs))
 
@@ -124,5 +94,4 @@ fails_behind failure es fs g (inl (last, told, stops)) = inl (last, told, stops_
 fails_behind failure es fs g (inr (goes, late)) = inr (go_on_append 0 _ _ es fs (omega arith) (g, omega arith) goes, late)
 
 pub ends_behind : (ends : List Event → Type 0) (es fs : List Event) → StopsAt (came []) es → All IsWrite fs → ends fs → EndsBehind ends (es ++ fs)
-ends_behind ends es fs (before, is, goes) w e =
-    record { before = before; writes = fs; all = ap (λ l. l ++ fs) is ∙ append_assoc before (came [] ∷ []) fs; goes = goes; only = w; ended = e }
+ends_behind ends es fs h w e = grind (arith, append_assoc)

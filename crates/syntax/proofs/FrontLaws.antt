@@ -1,8 +1,5 @@
 -- Laws of the first token of a line: either there is none, or it stands before the others.
-use Rattle.std.specs.Prelude.{Some}
-use Rattle.std.proofs.Common.{ℕ, ◌<◌, Bool, true, false, not, ◌||◌, cond, List, [], ◌∷◌, ◌≡◌, refl, sym, ap, ap₂, ◌∙◌, subst, arith, length}
-use Rattle.std.proofs.Math.Dec.{eqb}
-use Rattle.policy.proofs.ListLaws.{true_false}
+use Rattle.std.proofs.Common.{ℕ, ◌<◌, true, false, List, [], ◌∷◌, ◌≡◌, refl, sym, ◌∙◌, arith, length, Some}
 use Rattle.lexer.proofs.KeywordLaws.{keyword_some}
 use Rattle.lexer.proofs.LeadingLaws.{leading_length}
 use Rattle.lexer.proofs.TokenLaws.{tokens_after_spaces, tokens_first, tokens_ended, line_past_spaces, line_past_token, line_ended}
@@ -35,12 +32,10 @@ pub record Started (text : List ℕ) : Type 0 where
 -- no space stands before a token
 pub no_space : (text : List ℕ) → is_empty (token_in text) ≡ false → without_spaces text ≡ text
 no_space [] h = refl
-no_space (b ∷ s) h =
-    elim (eqb b 32) as (λ x. is_empty (cond (not (x || eqb b 10)) (b ∷ token_in s) []) ≡ false → cond x (without_spaces s) (b ∷ s) ≡ b ∷ s) [ true ↦ λ k. absurd (true_false refl k) | false ↦ λ k. refl ] h
+no_space (b ∷ s) h = grind arith
 
 token_length : (t : Token) → is_empty t ≡ false → 0 < length t
-token_length [] h = absurd (true_false refl h)
-token_length (b ∷ t) h = omega arith
+token_length t h = grind arith
 
 module _ (text : List ℕ) where
   pub ended : is_empty (first_token text) ≡ true → Ended text
@@ -54,14 +49,6 @@ module _ (text : List ℕ) where
         shorter = omega (arith, leading_length is_space text, leading_length in_token (without_spaces text), token_length (first_token text) h);
       }
 
-  -- what holds of no token, and of the first before the others, holds of the tokens of the line
-  pub by_first : (P : List Token → Type 0) → P [] → P (first_token text ∷ tokens_in (behind_first text)) → P (tokens_in text)
-  by_first P p q = go (is_empty (first_token text)) refl
-    where
-      go : (b : Bool) → is_empty (first_token text) ≡ b → P (tokens_in text)
-      go true h = subst P (sym (ended h).tokens) p
-      go false h = subst P (sym (started h).tokens) q
-
 -- a keyword, and what stands behind it
 pub record Worded (text word rest : List ℕ) : Type 0 where
   pub tokens : tokens_in text ≡ word ∷ tokens_in rest
@@ -69,11 +56,4 @@ pub record Worded (text word rest : List ℕ) : Type 0 where
   pub shorter : length rest < length text
 
 pub worded : (text word rest : List ℕ) → is_empty word ≡ false → keyword_in (without_spaces text) word ≡ Some rest → Worded text word rest
-worded text word rest n e =
-    let k = keyword_some (without_spaces text) word rest e in
-    let s = started text (ap is_empty k.0 ∙ n) in
-    record {
-      tokens = s.tokens ∙ ap₂ (λ (t : Token) (r : List ℕ). t ∷ tokens_in r) k.0 (sym k.1);
-      line = ap behind_line k.1 ∙ s.line;
-      shorter = rw k.1 s.shorter;
-    }
+worded text word rest n e = grind (arith, keyword_some (without_spaces text) word rest e, started text)

@@ -1,10 +1,8 @@
 -- Laws of the two shapes: the parts that were read are those of the line.
-use Rattle.std.proofs.Common.{ℕ, Bool, true, false, cond, List, [], ◌∷◌, map, ◌≡◌, refl, sym, ap, ◌∙◌}
-use Rattle.std.specs.Prelude.{Some, None, Option, option_map}
-use Rattle.policy.specs.Limits.{ending_in_range, ending_allowed}
-use Rattle.policy.specs.declared.effect.Effect.{Effect}
+use Rattle.std.proofs.Common.{arith, Some, None, Option, option_map}
+use Rattle.std.proofs.Common.{ℕ, Bool, true, false, cond, List, [], ◌∷◌, map, ◌≡◌, refl, ap, ◌∙◌}
+use Rattle.policy.specs.Limits.{ending_in_range}
 use Rattle.policy.specs.Line.{PolicyLine, heads_of, comparisons_of, ending_of}
-use Rattle.policy.specs.declared.comparison.Comparison.{Comparison}
 use Rattle.policy.specs.declared.comparison.Literal.{Literal}
 use Rattle.policy.specs.declared.line.Ending.{Ending}
 use Rattle.policy.specs.declared.line.Test.{Test}
@@ -14,11 +12,10 @@ use Rattle.lexer.specs.Lines.{behind_line}
 use Rattle.lexer.specs.Steps.Scan.{tokens_in}
 use Rattle.lexer.specs.Token.{Token, both, literal_of, action_of}
 use Rattle.token.specs.Steps.PartIn.{test_of}
-use Rattle.syntax.specs.Grammar.{Joined, last, before, joined, condition_from, effect_from, yields, never, rule_after, constraint_after, after}
+use Rattle.syntax.specs.Grammar.{Joined, last, before, joined, condition_from, rule_after, constraint_after, after}
 use Rattle.syntax.specs.Judge.{line_for}
 use Rattle.syntax.specs.Steps.Draft.{end_as, heads_into, ending_into, line_into}
-use Rattle.syntax.specs.Steps.Outcome.{HeadsRead, heads_read, heads_outcome, condition_outcome, yielded, effect_outcome, rule_for, line_outcome}
-use Rattle.syntax.specs.Steps.Effect.{effect_for}
+use Rattle.syntax.specs.Steps.Outcome.{heads_read, heads_outcome, condition_outcome, yielded, effect_outcome, rule_for, line_outcome}
 use Rattle.syntax.specs.declared.draft.Draft.{Draft}
 
 -- ---- heads as literals or as actions
@@ -27,77 +24,37 @@ mapped : {A B : Type 0} → (A → B) → Joined A → Joined B
 mapped f j = record { items = map f j.items; rest = j.rest }
 
 module _ {A B : Type 0} (f : A → B) (item : Token → Option A) where
+  one_joined : (rest : List Token) (b : Bool) (o : Option A) (j : Option (Joined A)) → cond b (both before (option_map f o) (option_map (mapped f) j)) (option_map (last rest) (option_map f o)) ≡ option_map (mapped f) (cond b (both before o j) (option_map (last rest) o))
+  unfolding both mapped
+  one_joined rest b o j = grind arith
+
   joined_map : (ts : List Token) → joined (λ (t : Token). option_map f (item t)) ts ≡ option_map (mapped f) (joined item ts)
   unfolding joined mapped both
   joined_map [] = refl
-  joined_map (t ∷ []) = go (item t)
-    where
-      go : (o : Option A) → option_map (last []) (option_map f o) ≡ option_map (mapped f) (option_map (last []) o)
-      go None = refl
-      go (Some x) = refl
-  joined_map (t ∷ s ∷ ts) = go (is "&" s) (item t) (joined item ts) (joined_map ts)
-    where
-      go : (b : Bool) (o : Option A) (j : Option (Joined A)) → joined (λ (u : Token). option_map f (item u)) ts ≡ option_map (mapped f) j → cond b (both before (option_map f o) (joined (λ (u : Token). option_map f (item u)) ts)) (option_map (last (s ∷ ts)) (option_map f o)) ≡ option_map (mapped f) (cond b (both before o j) (option_map (last (s ∷ ts)) o))
-      go true None j h = refl
-      go true (Some x) None h = rw h
-      go true (Some x) (Some y) h = rw h
-      go false None j h = refl
-      go false (Some x) j h = refl
+  joined_map (t ∷ []) = grind arith
+  joined_map (t ∷ s ∷ ts) = rw (joined_map ts) (one_joined (s ∷ ts) (is "&" s) (item t) (joined item ts))
 
 -- ---- the parts of a line, from its heads on
 
 module _ (d : Draft) (behind : List ℕ) where
   never_parts : (actions : List Action) (ts : List Token) → line_outcome d behind (constraint_after actions ts) ≡ condition_outcome (end_as (heads_into d (map Test.Member actions)) (Some Ending.Never)) behind (condition_from ts)
   unfolding line_outcome condition_outcome constraint_after line_into ending_into ending_in_range heads_of comparisons_of ending_of
-  never_parts actions ts = go (condition_from ts)
-    where
-      go : (o : Option (List Comparison)) → line_outcome d behind (option_map (never actions) o) ≡ condition_outcome (end_as (heads_into d (map Test.Member actions)) (Some Ending.Never)) behind o
-      go None = refl
-      go (Some cs) = refl
+  never_parts actions ts = grind arith
 
   rule_parts : (form : ℕ) (literals : List Literal) (ts : List Token) → line_outcome d behind (rule_for form literals ts) ≡ effect_outcome form (heads_into d (map Test.Occurs literals)) behind ts
   unfolding line_outcome effect_outcome yielded rule_after both line_for condition_outcome line_into heads_of comparisons_of ending_of
-  rule_parts form literals [] = refl
-  rule_parts form literals (t ∷ []) = refl
-  rule_parts form literals (t ∷ u ∷ ts) = go (effect_from t u) (condition_from ts)
-    where
-      go : (x : Option Effect) (o : Option (List Comparison)) → line_outcome d behind (line_for form (both (yields literals) x o)) ≡ yielded (heads_into d (map Test.Occurs literals)) behind (effect_for form x) o
-      go None o = refl
-      go (Some x) None = none (ending_allowed form (Ending.Yields x))
-        where
-          none : (b : Bool) → None ≡ yielded (heads_into d (map Test.Occurs literals)) behind (cond b (Some x) None) None
-          none true = refl
-          none false = refl
-      go (Some x) (Some cs) = here (ending_allowed form (Ending.Yields x))
-        where
-          here : (b : Bool) → line_outcome d behind (cond b (Some (yields literals x cs)) None) ≡ yielded (heads_into d (map Test.Occurs literals)) behind (cond b (Some x) None) (Some cs)
-          here true = refl
-          here false = refl
+  rule_parts form literals ts = grind arith
 
   -- the heads that were read, against those of the line
   module _ {A : Type 0} (f : A → Test) (tail : List A → List Token → Option PolicyLine) (o : Option (Joined A)) where
     heads_no : None ≡ heads_outcome d behind (option_map (mapped f) o) → line_outcome d behind (after tail o) ≡ None
     unfolding heads_outcome line_outcome after
-    heads_no q = go o q
-      where
-        go : (x : Option (Joined A)) → None ≡ heads_outcome d behind (option_map (mapped f) x) → line_outcome d behind (after tail x) ≡ None
-        go None p = refl
-        go (Some j) p = cc
+    heads_no h = grind arith
 
     heads_yes : (e : Draft) (rest : List ℕ) → heads_read (Some (e, rest)) ≡ heads_outcome d behind (option_map (mapped f) o) → (made : Draft → List ℕ → List Token → Option (Draft × List ℕ))
         → ((j : Joined A) → line_outcome d behind (tail j.items j.rest) ≡ made (heads_into d (map f j.items)) behind j.rest) → line_outcome d behind (after tail o) ≡ made e (behind_line rest) (tokens_in rest)
     unfolding heads_read heads_outcome line_outcome after mapped
-    heads_yes e rest q made law = go o q
-      where
-        go : (x : Option (Joined A)) → Some (record { draft = e; tokens = tokens_in rest; behind = behind_line rest }) ≡ heads_outcome d behind (option_map (mapped f) x) → line_outcome d behind (after tail x) ≡ made e (behind_line rest) (tokens_in rest)
-        go None p = cc
-        go (Some j) p = law j ∙ ap made_of (sym (same p))
-          where
-            made_of : HeadsRead → Option (Draft × List ℕ)
-            made_of v = made v.draft v.behind v.tokens
-
-            same : {x y : HeadsRead} → Some x ≡ Some y → x ≡ y
-            same h = cc
+    heads_yes e rest q made law = grind (arith, law)
 
 module _ (d : Draft) (text : List ℕ) where
   abbrev behind : List ℕ
@@ -119,7 +76,7 @@ module _ (d : Draft) (text : List ℕ) where
 
   pub constraint_no : heads_read None ≡ heads_outcome d behind (joined (test_of true) (tokens_in text)) → line_outcome d behind (after constraint_after actions) ≡ None
   unfolding heads_read
-  constraint_no q = heads_no d behind Test.Member constraint_after actions (q ∙ actions_read)
+  constraint_no q = grind (arith, heads_no, actions_read)
 
   pub constraint_yes : (e : Draft) (rest : List ℕ) → heads_read (Some (e, rest)) ≡ heads_outcome d behind (joined (test_of true) (tokens_in text))
       → line_outcome d behind (after constraint_after actions) ≡ condition_outcome (end_as e (Some Ending.Never)) (behind_line rest) (condition_from (tokens_in rest))
@@ -128,7 +85,7 @@ module _ (d : Draft) (text : List ℕ) where
 
   pub rule_no : (form : ℕ) → heads_read None ≡ heads_outcome d behind (joined (test_of false) (tokens_in text)) → line_outcome d behind (after (rule_for form) literals) ≡ None
   unfolding heads_read
-  rule_no form q = heads_no d behind Test.Occurs (rule_for form) literals (q ∙ literals_read)
+  rule_no form q = grind (arith, heads_no, literals_read)
 
   pub rule_yes : (form : ℕ) (e : Draft) (rest : List ℕ) → heads_read (Some (e, rest)) ≡ heads_outcome d behind (joined (test_of false) (tokens_in text))
       → line_outcome d behind (after (rule_for form) literals) ≡ effect_outcome form e (behind_line rest) (tokens_in rest)

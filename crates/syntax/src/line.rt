@@ -21,6 +21,7 @@ use policy::{Effect, Ending, Fault};
 use token::{comparison, head};
 
 // The literals of a rule or the actions of a constraint, joined by `&`.
+#[tactic(auto, using(crate::proofs::HeadLaws::heads_failed, crate::proofs::HeadLaws::heads_again, crate::proofs::HeadLaws::heads_less, crate::proofs::HeadLaws::heads_done), unfolding(lexer::specs::Byte::bytes, crate::specs::Steps::Outcome::heads_read))]
 fn read_heads<'a>(draft: &mut Draft, text: &'a [u8], never: bool) -> Option<&'a [u8]>
     ensures { heads_read (option_map (λ rest. (draft.new, rest.now)) result)
         ≡ heads_outcome draft.old (behind_line text.now) (joined (test_of never) (tokens_in text.now)) }
@@ -38,6 +39,7 @@ fn read_heads<'a>(draft: &mut Draft, text: &'a [u8], never: bool) -> Option<&'a 
 }
 
 // The comparisons of a line, joined by `,`, to the end of the line.
+#[tactic(auto, using(crate::proofs::ConditionLaws::comparisons_failed, crate::proofs::ConditionLaws::comparisons_done, crate::proofs::ConditionLaws::comparisons_broken, crate::proofs::ConditionLaws::comparisons_again, crate::proofs::ConditionLaws::comparisons_less), unfolding(lexer::specs::Byte::bytes))]
 fn read_comparisons<'a>(draft: &mut Draft, text: &'a [u8]) -> Option<&'a [u8]>
     ensures { option_map (λ rest. (draft.new, rest.now)) result
         ≡ condition_outcome draft.old (behind_line text.now) (comparisons_from (tokens_in text.now)) }
@@ -55,6 +57,7 @@ fn read_comparisons<'a>(draft: &mut Draft, text: &'a [u8]) -> Option<&'a [u8]>
 }
 
 // The condition of a line: `if` and comparisons, or nothing, to the end of the line.
+#[tactic(auto, using(crate::proofs::ConditionLaws::condition_none, crate::proofs::ConditionLaws::condition_bad, crate::proofs::ConditionLaws::condition_some), unfolding(lexer::specs::Byte::bytes))]
 fn read_condition<'a>(draft: &mut Draft, text: &'a [u8]) -> Option<&'a [u8]>
     ensures { option_map (λ rest. (draft.new, rest.now)) result
         ≡ condition_outcome draft.old (behind_line text.now) (condition_from (tokens_in text.now)) }
@@ -74,6 +77,7 @@ fn ending(effect: Option<Effect>) -> Option<Ending>
 }
 
 // The effect and the condition of a rule whose literals were read.
+#[tactic(auto, using(crate::proofs::EffectLaws::effect_failed, crate::proofs::EffectLaws::effect_read))]
 fn read_effect<'a>(draft: &mut Draft, form: u8, text: &'a [u8]) -> Option<&'a [u8]>
     ensures { option_map (λ rest. (draft.new, rest.now)) result
         ≡ effect_outcome form draft.old (behind_line text.now) (tokens_in text.now) }
@@ -83,6 +87,7 @@ fn read_effect<'a>(draft: &mut Draft, form: u8, text: &'a [u8]) -> Option<&'a [u
     read_condition(draft, behind)
 }
 
+#[tactic(auto, using(crate::proofs::ShapeLaws::rule_yes, crate::proofs::ShapeLaws::rule_no))]
 fn read_rule<'a>(draft: &mut Draft, form: u8, text: &'a [u8]) -> Option<&'a [u8]>
     ensures { option_map (λ rest. (draft.new, rest.now)) result
         ≡ line_outcome draft.old (behind_line text.now) (after (rule_for form) (joined literal_of (tokens_in text.now))) }
@@ -91,6 +96,7 @@ fn read_rule<'a>(draft: &mut Draft, form: u8, text: &'a [u8]) -> Option<&'a [u8]
     read_effect(draft, form, behind)
 }
 
+#[tactic(auto, using(crate::proofs::ShapeLaws::constraint_yes, crate::proofs::ShapeLaws::constraint_no))]
 fn read_constraint<'a>(draft: &mut Draft, text: &'a [u8]) -> Option<&'a [u8]>
     ensures { option_map (λ rest. (draft.new, rest.now)) result
         ≡ line_outcome draft.old (behind_line text.now) (after constraint_after (joined action_of (tokens_in text.now))) }
@@ -101,6 +107,7 @@ fn read_constraint<'a>(draft: &mut Draft, text: &'a [u8]) -> Option<&'a [u8]>
 }
 
 // The line whose first token stands in front.
+#[tactic(auto, using(crate::proofs::EffectLaws::line_never, crate::proofs::EffectLaws::line_rule), unfolding(lexer::specs::Byte::bytes))]
 fn read_parts<'a>(draft: &mut Draft, form: u8, text: &'a [u8]) -> Option<&'a [u8]>
     requires { is_empty (token_in text.now) ≡ false }
     ensures { option_map (λ rest. (draft.new, rest.now)) result
@@ -123,6 +130,7 @@ fn without_end(text: &[u8]) -> &[u8]
 }
 
 /// The first line of a text for images of a form, put in the place lent for it: whether it is a line, or skipped, and what stands behind the line and its end.
+#[tactic(auto, using(crate::proofs::JudgeLaws::line_blank, crate::proofs::JudgeLaws::line_comment, crate::proofs::JudgeLaws::line_misshapen, crate::proofs::JudgeLaws::line_fitting, crate::proofs::JudgeLaws::line_faulty, crate::proofs::JudgeLaws::line_good, crate::proofs::JudgeLaws::token_inside))]
 pub(crate) fn read_line<'a>(
     form: u8,
     text: &'a [u8],

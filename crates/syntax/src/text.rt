@@ -37,6 +37,7 @@ impl<'t> Lines<'t> {
 
     /// Goes on to the next line, if there is one, and answers the text from that line on. Behind a refusal there is none.
     #[inline(always)]
+    #[tactic(auto, using(crate::proofs::LinesLaws::left_none, crate::proofs::LinesLaws::read_shorter, crate::proofs::LinesLaws::left_refused, crate::proofs::LinesLaws::left_skipped, crate::proofs::LinesLaws::left_accepted))]
     pub fn advance(&mut self) -> Result<Option<&'t [u8]>, Refusal>
         ensures answer { result_map_both (λ o. option_map (λ text. text.now) o) (λ refusal. refusal) result ≡ from_first (lines_ahead self.old) }
         ensures line { StandsAtFirst self.new (lines_ahead self.old) }

@@ -16,6 +16,7 @@ const SMALLEST: u32 = 2_147_483_648;
 const PATTERN_DIGITS: usize = 8;
 
 // The constant of a number without a sign; none where it is out of range.
+#[tactic(auto, unfolding(policy::specs::Limits::is_reading_value))]
 fn positive(value: u32) -> Option<i32>
     ensures { result ≡ kept is_reading_value (pos value) }
 {
@@ -27,6 +28,7 @@ fn positive(value: u32) -> Option<i32>
 }
 
 // The same of a number behind a minus.
+#[tactic(auto, unfolding(policy::specs::Limits::is_reading_value))]
 fn negative(value: u32) -> Option<i32>
     requires { 1 ≤ value }
     ensures { result ≡ kept is_reading_value (negsuc (value - 1)) }

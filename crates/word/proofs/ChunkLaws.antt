@@ -1,27 +1,19 @@
 -- The words of an image cut into chunks of four bytes are the words of its bytes.
-use Rattle.std.proofs.Common.{ℕ, zero, suc, ◌/◌, List, [], ◌∷◌, ◌≡◌, refl, ap, ap₂, arith, length}
+use Rattle.std.proofs.Common.{ℕ, zero, suc, ◌/◌, List, [], ◌∷◌, ◌≡◌, refl, ap₂, arith, length}
 use Rattle.std.specs.Simd.{first_chunks}
 use Rattle.word.specs.Word.{join, words_of}
 use Rattle.word.specs.Chunk.{word_from, words_in}
 
 word_join : (a b c d : ℕ) → word_from (a ∷ b ∷ c ∷ d ∷ []) ≡ join a b c d
-word_join a b c d = omega arith
+word_join a b c d = grind arith
 
 pub words_chunks : (k : ℕ) (bytes : List ℕ) → k ≡ length bytes / 4 → words_in (first_chunks 4 k bytes) ≡ words_of bytes
 unfolding words_of
-words_chunks zero [] e = refl
-words_chunks zero (a ∷ []) e = refl
-words_chunks zero (a ∷ b ∷ []) e = refl
-words_chunks zero (a ∷ b ∷ c ∷ []) e = refl
 words_chunks zero (a ∷ b ∷ c ∷ d ∷ rest) e = absurd (omega arith)
-words_chunks (suc k) [] e = absurd (omega arith)
-words_chunks (suc k) (a ∷ []) e = absurd (omega arith)
-words_chunks (suc k) (a ∷ b ∷ []) e = absurd (omega arith)
-words_chunks (suc k) (a ∷ b ∷ c ∷ []) e = absurd (omega arith)
-words_chunks (suc k) (a ∷ b ∷ c ∷ d ∷ rest) e =
-    let l : k ≡ length rest / 4 = omega arith in
-    ap₂ (λ (x : ℕ) (xs : List ℕ). x ∷ xs) (word_join a b c d) (words_chunks k rest l)
+words_chunks zero bytes e = refl
+words_chunks (suc k) (a ∷ b ∷ c ∷ d ∷ rest) e = ap₂ (λ (x : ℕ) (xs : List ℕ). x ∷ xs) (word_join a b c d) (words_chunks k rest (omega arith))
+words_chunks (suc k) bytes e = absurd (omega arith)
 
 pub words_in_length : (chunks : List (List ℕ)) → length (words_in chunks) ≡ length chunks
 words_in_length [] = refl
-words_in_length (c ∷ cs) = ap suc (words_in_length cs)
+words_in_length (c ∷ cs) = grind (arith, words_in_length cs)

@@ -5,45 +5,31 @@ use Rattle.word.specs.Word.{word_limit, Below, join, words_of, bytes_of, byte_li
 
 -- ---- words of bytes
 
-length_four : (n : ℕ) → suc (n / 4) ≡ suc (suc (suc (suc n))) / 4
-length_four n = omega arith
-
 pub words_length : (bytes : List ℕ) → length (words_of bytes) ≡ length bytes / 4
 unfolding words_of
-words_length (a ∷ b ∷ c ∷ d ∷ rest) = ap suc (words_length rest) ∙ length_four (length rest)
-words_length (a ∷ b ∷ c ∷ []) = refl
-words_length (a ∷ b ∷ []) = refl
-words_length (a ∷ []) = refl
-words_length [] = refl
+words_length (a ∷ b ∷ c ∷ d ∷ rest) = grind (arith, words_length rest)
+words_length bytes = refl
 
 join_below : (a b c d : ℕ) → a < 256 → b < 256 → c < 256 → d < 256 → join a b c d < word_limit
-join_below a b c d ha hb hc hd = omega arith
+join_below a b c d h k l m = grind arith
 
 pub words_below : (bytes : List ℕ) → Below 256 bytes → Below word_limit (words_of bytes)
 unfolding words_of
 words_below (a ∷ b ∷ c ∷ d ∷ rest) h zero = join_below a b c d (h 0) (h 1) (h 2) (h 3)
 words_below (a ∷ b ∷ c ∷ d ∷ rest) h (suc i) = words_below rest (λ j. h (suc (suc (suc (suc j))))) i
-words_below (a ∷ b ∷ c ∷ []) h i = omega arith
-words_below (a ∷ b ∷ []) h i = omega arith
-words_below (a ∷ []) h i = omega arith
-words_below [] h i = omega arith
+words_below bytes h i = omega arith
 
 -- ---- there and back
 
 -- n is its part above the k lowest bits and its part below; the part above in turn
 pub parts : (n j k : ℕ) → n / 2 ^ j ≡ n / 2 ^ (j + k) * 2 ^ k + n / 2 ^ j % 2 ^ k
-parts n j k = sym (split (n / 2 ^ j) k) ∙ ap (λ (q : ℕ). q * 2 ^ k + n / 2 ^ j % 2 ^ k) (shr-shr n j k)
+parts n j k = grind (arith, split, shr-shr)
 
 pub lowest : (n k : ℕ) → n ≡ n / 2 ^ k * 2 ^ k + n % 2 ^ k
-lowest n k = sym (split n k)
-
-join_linear : (w a b c d q₈ q₁₆ q₂₄ : ℕ) → w ≡ q₈ * 256 + d → q₈ ≡ q₁₆ * 256 + c → q₁₆ ≡ q₂₄ * 256 + b → q₂₄ ≡ a → join a b c d ≡ w
-join_linear w a b c d q₈ q₁₆ q₂₄ e₁ e₂ e₃ e₄ = omega arith
+lowest n k = grind arith
 
 join_bytes : (w : ℕ) → w < word_limit → join (w / 2 ^ 24 % 256) (w / 2 ^ 16 % 256) (w / 2 ^ 8 % 256) (w % 256) ≡ w
-join_bytes w h =
-    let top : w / 2 ^ 24 ≡ w / 2 ^ 24 % 256 = omega arith in
-    join_linear w (w / 2 ^ 24 % 256) (w / 2 ^ 16 % 256) (w / 2 ^ 8 % 256) (w % 256) (w / 2 ^ 8) (w / 2 ^ 16) (w / 2 ^ 24) (lowest w 8) (parts w 8 8) (parts w 16 8) top
+join_bytes w h = grind arith
 
 -- words to bytes to words, whatever stands behind them
 pub words_append : (words rest : List ℕ) → Below word_limit words → words_of (bytes_of words ++ rest) ≡ words ++ words_of rest
@@ -55,47 +41,29 @@ pub words_of_bytes : (words : List ℕ) → Below word_limit words → words_of 
 unfolding words_of
 words_of_bytes words h = ap words_of (sym (append-nil (bytes_of words))) ∙ words_append words [] h ∙ append-nil words
 
-byte_1 : (a b c d : ℕ) → a < 256 → b < 256 → c < 256 → d < 256 → join a b c d / 2 ^ 24 % 256 ≡ a
-byte_1 a b c d ha hb hc hd = omega arith
-
-byte_2 : (a b c d : ℕ) → a < 256 → b < 256 → c < 256 → d < 256 → join a b c d / 2 ^ 16 % 256 ≡ b
-byte_2 a b c d ha hb hc hd = omega arith
-
-byte_3 : (a b c d : ℕ) → a < 256 → b < 256 → c < 256 → d < 256 → join a b c d / 2 ^ 8 % 256 ≡ c
-byte_3 a b c d ha hb hc hd = omega arith
-
-byte_4 : (a b c d : ℕ) → a < 256 → b < 256 → c < 256 → d < 256 → join a b c d % 256 ≡ d
-byte_4 a b c d ha hb hc hd = omega arith
-
 bytes_join : (a b c d : ℕ) → a < 256 → b < 256 → c < 256 → d < 256 → byte_list (join a b c d) ≡ a ∷ b ∷ c ∷ d ∷ []
-bytes_join a b c d ha hb hc hd = rw (byte_1 a b c d ha hb hc hd, byte_2 a b c d ha hb hc hd, byte_3 a b c d ha hb hc hd, byte_4 a b c d ha hb hc hd)
+bytes_join a b c d h k l m = grind arith
 
 -- bytes to words to bytes
 pub bytes_of_words : (bytes : List ℕ) → Below 256 bytes → length bytes % 4 ≡ 0 → bytes_of (words_of bytes) ≡ bytes
 unfolding words_of bytes_of
 bytes_of_words (a ∷ b ∷ c ∷ d ∷ rest) h e =
-    let l : length rest % 4 ≡ 0 = omega arith in
-    ap₂ (λ (xs ys : List ℕ). xs ++ ys) (bytes_join a b c d (h 0) (h 1) (h 2) (h 3)) (bytes_of_words rest (λ j. h (suc (suc (suc (suc j))))) l)
-bytes_of_words (a ∷ b ∷ c ∷ []) h e = absurd (omega arith)
-bytes_of_words (a ∷ b ∷ []) h e = absurd (omega arith)
-bytes_of_words (a ∷ []) h e = absurd (omega arith)
+    ap₂ (λ (xs ys : List ℕ). xs ++ ys) (bytes_join a b c d (h 0) (h 1) (h 2) (h 3)) (bytes_of_words rest (λ j. h (suc (suc (suc (suc j))))) (omega arith))
 bytes_of_words [] h e = refl
+bytes_of_words bytes h e = absurd (omega arith)
 
 pub bytes_length : (words : List ℕ) → length (bytes_of words) ≡ length words * 4
 unfolding bytes_of
 bytes_length [] = refl
-bytes_length (w ∷ ws) = let e = bytes_length ws in omega arith
+bytes_length (w ∷ ws) = grind (arith, bytes_length ws)
 
 pub bytes_below : (words : List ℕ) → Below 256 (bytes_of words)
 unfolding bytes_of
-bytes_below [] i = omega arith
-bytes_below (w ∷ ws) zero = omega arith
-bytes_below (w ∷ ws) (suc zero) = omega arith
-bytes_below (w ∷ ws) (suc (suc zero)) = omega arith
-bytes_below (w ∷ ws) (suc (suc (suc zero))) = omega arith
-bytes_below (w ∷ ws) (suc (suc (suc (suc i)))) = bytes_below ws i
+bytes_below [] i = grind arith
+bytes_below (w ∷ ws) (suc (suc (suc (suc i)))) = grind (arith, bytes_below ws i)
+bytes_below (w ∷ ws) i = grind arith
 
 pub bytes_append : (a b : List ℕ) → bytes_of (a ++ b) ≡ bytes_of a ++ bytes_of b
 unfolding bytes_of
 bytes_append [] b = refl
-bytes_append (w ∷ ws) b = ap (λ (xs : List ℕ). byte_list w ++ xs) (bytes_append ws b)
+bytes_append (w ∷ ws) b = grind (arith, bytes_append ws b)

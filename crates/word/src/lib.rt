@@ -22,6 +22,7 @@ pub fn put_word(buffer: &mut [u8], index: usize, word: u32) -> bool
 }
 
 /// The words of the bytes. What is left over behind the last is no word.
+#[tactic(auto, using(crate::proofs::ChunkLaws::words_chunks))]
 pub fn words(bytes: &[u8]) -> &[[u8; 4]]
     ensures { words_in result.now ≡ words_of bytes.now }
 {

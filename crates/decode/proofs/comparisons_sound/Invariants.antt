@@ -1,7 +1,7 @@
-use Rattle.std.proofs.Common.{◌-◌}
+use Rattle.std.proofs.Common.{◌-◌, ◌≤◌, ◌≡◌, length}
 use Rattle.word.specs.Chunk.{words_in}
-use Rattle.decode.proofs.LengthLaws.{Comparing}
+use Rattle.decode.specs.Steps.Scan.{comparisons_fill}
 use Rattle.decode.proofs.comparisons_sound.Given as goal
 
 abbrev pub invariant-loop : goal.invariant-loop
-invariant-loop l = Comparing (words_in l.words) (4 - l.counter) (words_in l.rest)
+invariant-loop l = (length l.rest ≤ length l.words) × (comparisons_fill (4 - l.counter) (length l.rest) (words_in l.rest) ≡ comparisons_fill 4 (length l.words) (words_in l.words))

@@ -1,5 +1,4 @@
-use Rattle.std.proofs.Common.{◌≡◌, refl, sym, arith}
-use Rattle.std.specs.Prelude.{Err}
+use Rattle.std.proofs.Common.{◌≡◌, refl, sym, arith, Err}
 use Rattle.guarantees.proofs.Together.{together_decided, together_refused}
 use Rattle.guarantees.proofs.compile_and_decide.Goals as goal
 

@@ -1,5 +1,4 @@
-use Rattle.std.proofs.Common.{refl, ◌∙◌, arith}
-use Rattle.policy.specs.Set.{no_events}
+use Rattle.std.proofs.Common.{refl, arith}
 use Rattle.guarantees.specs.Together.{decided_lines}
 use Rattle.guarantees.proofs.LineLaws.{pending_behind, line_decided, all_done}
 use Rattle.guarantees.proofs.decide_lines.Goals as goal
@@ -15,6 +14,4 @@ loop-i-preserved c =
     record { decisions = more.0; pending = more.1 }
 
 pub returns : goal.returns
-returns c =
-    let i = c.loop-i.i in
-    c.loop-i.invariant.decisions ∙ all_done c.args.image.now c.args.lines.now no_events c.args.decisions.now i (omega (arith, c.loop-i-test.false, c.loop-i.auto.i-end, c.min-i-end.ensures))
+returns c = grind (arith, all_done)

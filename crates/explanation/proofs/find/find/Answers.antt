@@ -1,39 +1,37 @@
-use Rattle.std.specs.Prelude.{Ok, None}
-use Rattle.std.proofs.Common.{◌≡◌, arith}
+use Rattle.std.proofs.Common.{Ok, None, ◌≡◌, sym, ◌∙◌, arith}
 use Rattle.syntax.proofs.WalkLaws.{advanced}
 use Rattle.explanation.proofs.FindLaws.{seeking_none, seeking_all, seeking_judge}
 use Rattle.explanation.proofs.find.find.Goals as goal
 use Rattle.explanation.proofs.find.find.Goals.{in_default, in_default-2}
 
 pub loop-here-init : goal.loop-here-init
-loop-here-init c = seeking_none _ _ _ _ (c.new-lines.ensures)
+loop-here-init c = seeking_none c.new-lines.ensures
 
 pub told-requires : goal.told-requires
 told-requires c =
     let w = advanced c.loop-here.lines c.advance.new.self c.in-Ok-Some.here.now (rw c.in-Ok-Some.field-0-is at c.in-Ok-Some.ensures.answer) c.advance.ensures.line c.advance.ensures.ahead in
-    (seeking_judge _ _ _ _ _ _ c.loop-here.invariant w _ c.line.ensures).writable
+    (seeking_judge c.loop-here.invariant w c.line.ensures).writable
 
 pub overflow_sub-text : goal.overflow_sub-text
 overflow_sub-text c =
     let w = advanced c.loop-here.lines c.advance.new.self c.in-Ok-Some.here.now (rw c.in-Ok-Some.field-0-is at c.in-Ok-Some.ensures.answer) c.advance.ensures.line c.advance.ensures.ahead in
-    (seeking_judge _ _ _ _ _ _ c.loop-here.invariant w _ c.line.ensures).short
+    (seeking_judge c.loop-here.invariant w c.line.ensures).short
 
 pub excerpt_at-requires : goal.excerpt_at-requires
 excerpt_at-requires c =
     let w = advanced c.loop-here.lines c.advance.new.self c.in-Ok-Some.here.now (rw c.in-Ok-Some.field-0-is at c.in-Ok-Some.ensures.answer) c.advance.ensures.line c.advance.ensures.ahead in
-    let short = (seeking_judge _ _ _ _ _ _ c.loop-here.invariant w _ c.line.ensures).short in
     let known = c.well_formed in
-    omega (arith, short, known)
+    omega (arith, (seeking_judge c.loop-here.invariant w c.line.ensures).short)
 
 pub returns-then-told : goal.returns-then-told
 returns-then-told c =
     let w = advanced c.loop-here.lines c.advance.new.self c.in-Ok-Some.here.now (rw c.in-Ok-Some.field-0-is at c.in-Ok-Some.ensures.answer) c.advance.ensures.line c.advance.ensures.ahead in
-    (seeking_judge _ _ _ _ _ _ c.loop-here.invariant w _ c.line.ensures).hit _ c.told.ensures c.if-told.true _ c.excerpt_at.ensures
+    (seeking_judge c.loop-here.invariant w c.line.ensures).hit (sym c.if-told.true ∙ c.told.ensures) _ c.excerpt_at.ensures
 
 pub loop-here-preserved : goal.loop-here-preserved
 loop-here-preserved c =
     let w = advanced c.loop-here.lines c.advance.new.self c.in-Ok-Some.here.now (rw c.in-Ok-Some.field-0-is at c.in-Ok-Some.ensures.answer) c.advance.ensures.line c.advance.ensures.ahead in
-    (seeking_judge _ _ _ _ _ _ c.loop-here.invariant w _ c.line.ensures).miss _ c.told.ensures c.if-told.false
+    (seeking_judge c.loop-here.invariant w c.line.ensures).miss (sym c.if-told.false ∙ c.told.ensures)
 
 pub returns : goal.returns
 returns c =
@@ -41,8 +39,8 @@ returns c =
       | in_default w ↦
           let n : c.advance.result ≡ Ok None = grind arith in
           let e = rw n at c.advance.ensures.answer in
-          seeking_all _ _ _ _ c.loop-here.invariant (λ here q. let z : ⊥ = cc (e, q) in z)
+          seeking_all c.loop-here.invariant (λ here q. cc (e, q))
       | in_default-2 w ↦
           let e = rw w.in_default.is at c.advance.ensures.answer in
-          seeking_all _ _ _ _ c.loop-here.invariant (λ here q. let z : ⊥ = cc (e, q) in z)
+          seeking_all c.loop-here.invariant (λ here q. cc (e, q))
     ]

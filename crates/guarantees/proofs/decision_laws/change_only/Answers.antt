@@ -1,5 +1,5 @@
-use Rattle.guarantees.proofs.Agreement as laws
+use Rattle.guarantees.proofs.Agreement.{image_of_text, changes_one}
 use Rattle.guarantees.proofs.decision_laws.change_only.Goals as goal
 
 pub returns : goal.returns
-returns c = laws.change_only
+returns c = λ form text image w. changes_one form _ image (image_of_text form text image w)

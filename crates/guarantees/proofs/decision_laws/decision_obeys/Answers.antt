@@ -1,5 +1,5 @@
-use Rattle.guarantees.proofs.Agreement as laws
+use Rattle.guarantees.proofs.Agreement.{image_of_texts, obeys}
 use Rattle.guarantees.proofs.decision_laws.decision_obeys.Goals as goal
 
 pub returns : goal.returns
-returns c = laws.decision_obeys
+returns c = λ form maker site image w. obeys form _ image (image_of_texts form maker site image w)

@@ -1,5 +1,4 @@
-use Rattle.std.proofs.Common.{◌<◌, List, ℕ, length, arith}
-use Rattle.policy.specs.declared.epoch.Readings.{Readings}
+use Rattle.std.proofs.Common.{arith}
 use Rattle.policy.specs.declared.line.Part.{Part}
 use Rattle.word.specs.Chunk.{words_in}
 use Rattle.word.proofs.ChunkLaws.{words_in_length}
@@ -15,14 +14,7 @@ run_rules-run-requires c = record { whole = c.args.image.now.whole Part.Rules }
 
 pub overflow_add-result : goal.overflow_add-result
 overflow_add-result c =
-    let rs : Readings = c.args.epoch.now.readings in
-    let constraints : List ℕ = words_in c.args.image.now.parts.constraints.now in
-    let few : length constraints < 8192 = omega (arith, words_in_length c.args.image.now.parts.constraints.now, c.args.image.now.few Part.Constraints) in
-    omega (
-      arith,
-      c.run_rules-run.ensures.words,
-      c.keep_proposed-kept.ensures.words,
-      rule_fetches_few rs (words_in c.args.image.now.parts.rules.now) c.all.result,
-      words_in_length c.args.image.now.parts.rules.now,
-      tried_few constraints few rs c.run_rules-run.result.effects.actions,
-    )
+    let few = words_in_length c.args.image.now.parts.constraints.now in
+    let rules_few = rule_fetches_few c.args.epoch.now.readings (words_in c.args.image.now.parts.rules.now) c.all.result in
+    let tried = tried_few (words_in c.args.image.now.parts.constraints.now) (omega (arith, c.args.image.now.few Part.Constraints)) c.args.epoch.now.readings c.run_rules-run.result.effects.actions in
+    omega (arith, words_in_length c.args.image.now.parts.rules.now, c.keep_proposed-kept.ensures.words, c.run_rules-run.ensures.words)

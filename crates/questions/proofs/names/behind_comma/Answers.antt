@@ -1,5 +1,4 @@
-use Rattle.std.proofs.Common.{ap, sym, refl, ◌∙◌, Some}
-use Rattle.std.specs.Prelude.{option_map}
+use Rattle.std.proofs.Common.{ap, sym, refl, ◌∙◌, Some, option_map}
 use Rattle.questions.specs.Answered.{with_event, behind_comma}
 use Rattle.questions.proofs.NameLaws.{event_read}
 use Rattle.questions.proofs.names.behind_comma.Goals as goal

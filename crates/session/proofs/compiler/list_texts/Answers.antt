@@ -1,4 +1,4 @@
-use Rattle.std.proofs.Common.{◌≡◌, ℕ, ◌≤◌, List, length, take, ◌∙◌, ap₂, subst, arith, rules}
+use Rattle.std.proofs.Common.{◌≡◌, ℕ, ◌≤◌, List, length, take, arith, rules}
 use Rattle.output.proofs.AppendLaws.{Put}
 use Rattle.stream.specs.declared.failure.Failure.{Failure}
 use Rattle.stream.specs.Event.{GoOn, Fails}
@@ -13,8 +13,7 @@ use Rattle.session.proofs.compiler.list_texts.Goals as goal
 of_both : {a b c d : Known} (maker site out after : List ℕ) (end : ℕ) (P : List ℕ → Type 0) → Put out 0 (listed_texts maker site) after end → listing_size ≤ length out
     → BothRead a b c d (λ first second. (maker ≡ take text_held first) × (site ≡ take text_held second)) → P (take end after)
     → BothRead a b c d (λ first second. P (listed_texts first second))
-of_both maker site out after end P put room (first, second, read, read', kept) holds =
-    (first, second, read, read', subst P (texts_listing_whole maker site out after end room put ∙ ap₂ listed_texts kept.0 kept.1 ∙ texts_listing_cut first second) holds)
+of_both maker site out after end P put room (first, second, read, read', kept) holds = grind (arith, texts_listing_whole, texts_listing_cut)
 
 pub returns-in-Ok-write_whole-clause-ok : goal.returns-in-Ok-write_whole-clause-ok
 returns-in-Ok-write_whole-clause-ok g c =

@@ -1,24 +1,15 @@
-use Rattle.std.proofs.Common.{ap, sym, ◌∙◌, arith, rules}
+use Rattle.std.proofs.Common.{sym, ◌∙◌, arith, rules}
 use Rattle.codegen.proofs.AcceptedLaws.{newest_known}
 use Rattle.codegen.proofs.RoomLaws.{compiled_refusal, compiled_read}
 use Rattle.codegen.specs.Compile.{newest_form}
-use Rattle.output.specs.Sink.{fed}
 use Rattle.report.proofs.LengthLaws.{refusal_short}
-use Rattle.session.specs.Printed.{text_only}
-use Rattle.session.proofs.TextLaws.{refused_prints, accepted_prints}
+use Rattle.session.specs.Printed.{printed_for, answers_to}
+use Rattle.session.proofs.TextLaws.{accepted_prints}
 use Rattle.session.proofs.text.end_text.Goals as goal
 
 pub returns-in-Err : goal.returns-in-Err
-returns-in-Err g c =
-    let refused = compiled_refusal newest_form newest_known _ _ c.requires c.in-Err.refusal (sym c.compile.ensures.answer ∙ c.in-Err.is) in
-    let prints = refused_prints _ _ text_only refused in
-    record {
-      same = search rules;
-      within = tt;
-      puts = c.put_refusal.ensures ∙ ap (fed g.S.Sink.taken c.args.sink.now) (sym prints);
-      short = rw prints (refusal_short _ (omega arith));
-      ends = λ s. refused_prints _ _ s refused ∙ sym prints;
-    }
+unfolding printed_for answers_to
+returns-in-Err g c = grind (arith, compiled_refusal, newest_known, refusal_short)
 
 pub returns-in-Ok : goal.returns-in-Ok
 returns-in-Ok g c =

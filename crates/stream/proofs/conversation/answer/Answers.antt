@@ -1,5 +1,5 @@
-use Rattle.std.proofs.Common.{◌+◌, [], ◌++◌, length, take, refl, ap, append-nil, length-append, arith, rules}
-use Rattle.std.proofs.lemmas.List.{take_rest, length-drop}
+use Rattle.std.proofs.Common.{◌+◌, [], ◌++◌, length, take, refl, ap, append-nil, length-append, arith, rules, length-drop}
+use Rattle.std.proofs.lemmas.List.{take_rest}
 use Rattle.std.proofs.lemmas.Result.{err_from_is_err_and}
 use Rattle.stream.specs.declared.failure.Failure.TheVariants.{Write}
 use Rattle.stream.proofs.EventLaws.{go_on_append, fails_behind}

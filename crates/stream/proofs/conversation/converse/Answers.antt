@@ -7,8 +7,7 @@ pub loop-turn-init : goal.loop-turn-init
 loop-turn-init g c = begins g.M.Machine.given g.M.Machine.printed _ _ c.requires.empty
 
 pub loop-turn-preserved : goal.loop-turn-preserved
-loop-turn-preserved g c =
-    goes_on g.M.Machine.given g.M.Machine.printed c.loop-turn.invariant _ c.in-Ok.ensures.ok (omega (arith, c.in-Ok.ensures.bound.1)) c.in-Ok-answer.ensures.goes c.in-Ok-answer.ensures.ok
+loop-turn-preserved g c = grind (arith, goes_on)
 
 pub returns-in-Err-clause-err : goal.returns-in-Err-clause-err
 returns-in-Err-clause-err g c = read_fails g.M.Machine.given g.M.Machine.printed c.loop-turn.invariant c.in-Err.e c.in-Err.ensures.err

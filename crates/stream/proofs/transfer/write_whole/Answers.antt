@@ -1,6 +1,6 @@
-use Rattle.std.proofs.Common.{◌≡◌, ℕ, ◌+◌, ◌-◌, ◌<◌, ◌≤◌, List, [], ◌++◌, length, take, drop, refl, sym, ap, ◌∙◌, arith, append-nil, take-add, inl, rules}
+use Rattle.std.proofs.Common.{◌≡◌, ℕ, ◌+◌, ◌-◌, ◌<◌, ◌≤◌, List, [], ◌++◌, length, take, drop, refl, sym, ap, ◌∙◌, arith, append-nil, take-add, inl, rules, length-drop, length-take-le}
 use Rattle.std.proofs.KnownBytes.{Appends-nil, Appends-kept}
-use Rattle.std.proofs.lemmas.List.{take_rest, length-drop, length-take-le}
+use Rattle.std.proofs.lemmas.List.{take_rest}
 use Rattle.stream.specs.Event.{went, write_failed}
 use Rattle.stream.proofs.EventLaws.{go_on_append, go_on_event, stops_behind}
 use Rattle.stream.proofs.KnownLaws.{sends_call, sends_trans}

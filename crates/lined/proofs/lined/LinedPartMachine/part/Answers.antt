@@ -1,4 +1,4 @@
-use Rattle.std.proofs.Common.{length, take, ap}
+use Rattle.std.proofs.Common.{length, take, arith}
 use Rattle.lined.proofs.LineLaws.{part_handed}
 use Rattle.lined.proofs.lined.LinedPartMachine.part.Goals as goal
 
@@ -6,7 +6,4 @@ pub returns : goal.returns
 returns g c =
     let self = c.args.self.now in
     let same = part_handed (length self.held.now) _ (take self.size self.held.now) _ c.args.bytes.now c.keep-self.auto.front c.keep-self.ensures.value c.requires in
-    record {
-      at_once = λ rest. ap (λ p. g.L.LineMachine.given self.machine p.0) (same rest);
-      in_all = λ rest. ap (λ p. g.L.LineMachine.printed self.machine p.0 p.1) (same rest);
-    }
+    record { at_once = λ rest. grind (arith, same rest); in_all = λ rest. grind (arith, same rest) }

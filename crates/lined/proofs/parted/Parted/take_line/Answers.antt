@@ -1,14 +1,11 @@
 use Rattle.std.proofs.Common.{[], length, take, sym, arith, append-nil, take_all}
 use Rattle.output.proofs.RoomLaws.{put_take}
-use Rattle.lined.proofs.EndLaws.{found_none, found_some}
+use Rattle.lined.proofs.EndLaws.{found_some}
 use Rattle.lined.proofs.WaitLaws.{goes_behind, goes_line}
 use Rattle.lined.proofs.parted.Parted.take_line.Goals as goal
 
 pub answer-self-requires-clause-none : goal.answer-self-requires-clause-none
 answer-self-requires-clause-none g c = (found_some c.args.bytes.now _ _ c.line_end.ensures c.in-Some.is).2
-
-pub part-requires : goal.part-requires
-part-requires g c = found_none c.args.bytes.now _ c.line_end.ensures c.in-None.is
 
 pub returns-in-Some-clause-goes : goal.returns-in-Some-clause-goes
 returns-in-Some-clause-goes g c =

@@ -1,11 +1,10 @@
-use Rattle.policy.specs.Set.{insert, set_of}
 use Rattle.policy.specs.Epoch.{viewed}
 use Rattle.word.specs.Chunk.{words_in}
 use Rattle.run.proofs.StandLaws.{Trying}
 use Rattle.run.proofs.waiting.Waiting.try_action.Given as goal
 
 abbrev pub invariant-loop-left : goal.invariant-loop-left
-invariant-loop-left l = Trying (viewed l.view) (words_in l.words) (set_of (insert l.fn.kept.bits l.fn.action.0)) l.fn.action.0 l.self.starts l.self.behind l.self.waits l.self.count l.left l.line l.fetched
+invariant-loop-left l = Trying (viewed l.view) (words_in l.words) l.fn.kept l.fn.action.0 l.more l.self l.left l.line l.fetched
 
 abbrev pub decreases-loop-left : goal.decreases-loop-left
 decreases-loop-left l = l.left

@@ -1,5 +1,0 @@
-use Rattle.guarantees.proofs.Agreement as laws
-use Rattle.guarantees.proofs.decision_laws.decisions_agree.Goals as goal
-
-pub returns : goal.returns
-returns c = laws.decisions_agree

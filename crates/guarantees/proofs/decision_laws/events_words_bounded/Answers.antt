@@ -1,5 +1,0 @@
-use Rattle.guarantees.proofs.Words as laws
-use Rattle.guarantees.proofs.decision_laws.events_words_bounded.Goals as goal
-
-pub returns : goal.returns
-returns c = laws.events_words_bounded

@@ -1,5 +1,0 @@
-use Rattle.guarantees.proofs.Agreement as laws
-use Rattle.guarantees.proofs.decision_laws.pending_agrees.Goals as goal
-
-pub returns : goal.returns
-returns c = laws.pending_agrees

@@ -1,5 +1,0 @@
-use Rattle.exactness.proofs.Exact as laws
-use Rattle.guarantees.proofs.image_laws.weights_exactly.Goals as goal
-
-pub returns : goal.returns
-returns c = laws.weights_exactly

@@ -1,5 +1,0 @@
-use Rattle.acceptance.proofs.FirstFault as laws
-use Rattle.guarantees.proofs.reading_laws.epoch_refused_exactly.Goals as goal
-
-pub returns : goal.returns
-returns c = laws.epoch_refused_exactly
