@@ -1,10 +1,10 @@
 -- Of a text over its length one byte more than that is enough: a program need not hold more to read it, alone or with another.
 use Rattle.std.proofs.Common.{ℕ, suc, ◌<◌, List, ◌⊎◌, inl, inr, ◌≡◌, sym, ap, ◌∙◌, arith, lt-ltb, length, take, length-take, take_all, Err}
+use Rattle.std.proofs.lemmas.Bool.{cases_lt}
 use Rattle.policy.specs.Fault.{refusal, in_text}
 use Rattle.policy.specs.Policy.{Policy}
 use Rattle.policy.specs.declared.fault.Fault.{Fault}
 use Rattle.policy.specs.declared.fault.Source.{Source}
-use Rattle.acceptance.proofs.FirstFault.{le_or_lt}
 use Rattle.rule_text.specs.Text.{empty_policy, text_limit, read_text_behind, read_text, read_texts}
 
 -- a byte more than a text may have
@@ -13,7 +13,7 @@ over = suc text_limit
 
 -- what is cut off is cut off a text that is too long
 pub whole_or_long : (text : List ℕ) → (take over text ≡ text) ⊎ (text_limit < length text)
-whole_or_long text = elim (le_or_lt (length text) over) [ inl h ↦ inl (take_all over text h) | inr h ↦ inr (omega arith) ]
+whole_or_long text = elim (cases_lt text_limit (length text)) [ inl h ↦ inr h | inr h ↦ inl (take_all over text (omega arith)) ]
 
 pub long_stops : (form : ℕ) (p : Policy) (text : List ℕ) → text_limit < length text → read_text_behind form p text ≡ Err (refusal Fault.TooLong 0)
 unfolding read_text_behind

@@ -1,5 +1,6 @@
 -- A refused text has the first fault of its lines, a refused epoch line the first of its tests.
 use Rattle.std.proofs.Common.{append-nil, ℕ, suc, ◌+◌, ◌≤◌, ◌<◌, List, [], ◌∷◌, ◌++◌, ◌⊎◌, inl, inr, ◌≡◌, refl, sym, ap, ap₂, ◌∙◌, arith, length, le-ltb, lt-ltb, ◌↔◌, Result, Ok, Err, Option, Some, None}
+use Rattle.std.proofs.lemmas.Bool.{cases_lt}
 use Rattle.std.proofs.lemmas.Bool.Decides.{nat_tests}
 use Rattle.policy.specs.Fault.{refusal, within, in_text}
 use Rattle.policy.specs.Limits.{line_limit}
@@ -27,9 +28,6 @@ module _ (form : ℕ) (p : Policy) (l : List ℕ) where
   here_refused f (LineFault.own g r) = read_refused form p l g (refused_answer form l g r)
   here_refused f (LineFault.one_more x a k) = read_over form p l x (accepted_answer form l x a) (le-ltb _ _ k)
 
-pub le_or_lt : (a b : ℕ) → (a ≤ b) ⊎ (b < a)
-le_or_lt a b = grind arith
-
 -- each line is taken, or has a fault
 here : (form : ℕ) (p : Policy) (l : List ℕ) → ((q : Policy) × Takes form p l q) ⊎ ((f : Fault) × LineFault form p l f)
 here form p l = go (line_answer form l) (is_one form l)
@@ -38,9 +36,9 @@ here form p l = go (line_answer form l) (is_one form l)
     go (Ok None) s = inl (p, Takes.passed s)
     go (Err f) r = inr (f, LineFault.own f r)
     go (Ok (Some x)) a =
-        elim (le_or_lt (line_limit (line_part x)) (line_count p (line_part x))) [
-          | inl h ↦ inr (Fault.TooManyLines, LineFault.one_more x a h)
-          | inr h ↦ inl (with_line p x, Takes.added x a h)
+        elim (cases_lt (line_count p (line_part x)) (line_limit (line_part x))) [
+          | inl h ↦ inl (with_line p x, Takes.added x a h)
+          | inr h ↦ inr (Fault.TooManyLines, LineFault.one_more x a h)
         ]
 
 -- ---- the lines of a text behind a policy
@@ -111,9 +109,9 @@ data Comes (form : ℕ) (p : Policy) (text : List ℕ) : Type 0 where
 
 comes : (form : ℕ) (p : Policy) (text : List ℕ) → Comes form p text
 comes form p text =
-    elim (le_or_lt (length text) text_limit) [
-      | inr h ↦ Comes.long h
-      | inl h ↦
+    elim (cases_lt text_limit (length text)) [
+      | inl h ↦ Comes.long h
+      | inr h ↦
           elim (among form (lines_of text) p) [
             | inl t ↦ Comes.taken h t.0 t.1
             | inr f ↦

@@ -1,8 +1,9 @@
 -- The readings of an accepted epoch line: one that it gives has the value that stands there, and no other is given.
 use Rattle.std.proofs.lemmas.Bool.Decides.{nat_tests}
 use Rattle.std.proofs.Common.{ℕ, zero, suc, ◌<◌, true, false, List, [], ◌∷◌, Contains, ◌≢◌, ◌≡◌, refl, ap, ◌∙◌, arith, ℤ, length, length-set, slice_get, lt-length-set, get_or-set_same, Some, fold, Ok, eqb, set}
+use Rattle.std.proofs.lemmas.Bool.{and_parts}
 use Rattle.std.proofs.lemmas.Option.{slice_get-get_or}
-use Rattle.policy.proofs.ListLaws.{contains_cases, and_out}
+use Rattle.policy.proofs.ListLaws.{contains_cases}
 use Rattle.policy.proofs.SetLaws.{has_empty, has_insert_same, has_insert_other}
 use Rattle.policy.specs.Epoch.{reading_value}
 use Rattle.policy.specs.declared.epoch.Epoch.{Epoch}
@@ -70,7 +71,7 @@ module _ (n : ℕ) where
 
     gives : (is : List Item) (e : Epoch) → length e.readings.values ≡ reading_limit → list_all item_in_range is ≡ true → repeats (given_by is) ≡ false → Contains is (value n k) → Gives e is
     gives [] e l r u m = absurd (omega (arith, m.1))
-    gives (i ∷ is) e l r u m = grind (arith, contains_cases, first, places, and_out, fewer, gives is (add_item e i))
+    gives (i ∷ is) e l r u m = grind (arith, contains_cases, first, places, and_parts, fewer, gives is (add_item e i))
 
 -- ---- an accepted line
 

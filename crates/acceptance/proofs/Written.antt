@@ -1,12 +1,13 @@
 -- What is read of a line's tokens is in the grammar, and nothing in the grammar is refused.
-use Rattle.std.proofs.Common.{ℕ, Bool, true, false, cond, List, [], ◌∷◌, ◌++◌, ◌≡◌, ◌⊎◌, inl, inr, refl, ap, ◌∙◌, arith, Option, Some, None, option_map}
+use Rattle.std.proofs.Common.{Bool, true, false, cond, List, [], ◌∷◌, ◌++◌, ◌≡◌, ◌⊎◌, inl, inr, refl, ap, ◌∙◌, arith, Option, Some, None, option_map}
+use Rattle.std.proofs.lemmas.Bool.{false_from_ne_true}
 use Prim.Native.String.{String}
-use Rattle.policy.proofs.ListLaws.{not_true_is}
 use Rattle.policy.specs.Line.{PolicyLine, rule, constraint}
 use Rattle.policy.specs.Policy.{Rule, Constraint}
 use Rattle.policy.specs.declared.comparison.Comparison.{Comparison}
 use Rattle.policy.specs.declared.comparison.Literal.{Literal}
 use Rattle.policy.specs.declared.effect.Effect.{Effect}
+use Rattle.lexer.proofs.KeywordLaws.{same_bytes}
 use Rattle.lexer.specs.Byte.{bytes, bytes_equal, is}
 use Rattle.lexer.specs.Token.{Token, named, both, literal_of, action_of, comparison_of}
 use Rattle.syntax.specs.Grammar.{Joined, last, before, joined, comparisons_from, condition_from, effect_from, yields, never, rule_after, constraint_after, after, line_from}
@@ -25,13 +26,6 @@ choice_out b o p z h = grind arith
 
 -- ---- keywords
 
-same_bytes : (s t : List ℕ) → bytes_equal s t ≡ true → s ≡ t
-unfolding bytes_equal
-same_bytes [] [] e = refl
-same_bytes [] (y ∷ ys) e = cc
-same_bytes (x ∷ xs) [] e = cc
-same_bytes (x ∷ xs) (y ∷ ys) e = grind (arith, same_bytes xs ys)
-
 -- what one keyword is, is no other
 module _ (t : Token) where
   is_other : (k l : String) → is k t ≡ true → is l t ≡ is l (bytes k)
@@ -44,7 +38,7 @@ module _ (t : Token) where
 
   literal_apart : (x : Literal) → literal_of t ≡ Some x → is "never" t ≡ false
   unfolding is bytes literal_of named
-  literal_apart x h = not_true_is (is "never" t) (λ e. let n : literal_of t ≡ None = ap literal_of (same_bytes t (bytes "never") e) in cc)
+  literal_apart x h = false_from_ne_true (is "never" t) (λ e. let n : literal_of t ≡ None = ap literal_of (same_bytes t (bytes "never") e) in cc)
 
 -- ---- items joined by `&`
 

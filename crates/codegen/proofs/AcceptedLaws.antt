@@ -41,9 +41,9 @@ extends_read : (form : ℕ) (p m q : Policy) (n : ℕ) (text l : List ℕ) (behi
     → Extends p (accepted_lines (before_later n text l (line_answer form l) behind)) q
 unfolding accepted_lines before_later
 extends_read form p m q n text l behind (LineRead.skips a s) r x = let i : m ≡ p = cc in rw a (rw i at x)
-extends_read form p m q n text l behind (LineRead.fails f a s) r x = absurd cc
+extends_read form p m q n text l behind (LineRead.fails f a s) r x = cc
 extends_read form p m q n text l behind (LineRead.adds d a h s) r x = let i : m ≡ with_line p d = cc in rw a (extends_more p d (accepted_lines behind) q (rw i at x))
-extends_read form p m q n text l behind (LineRead.is_over d a h s) r x = absurd cc
+extends_read form p m q n text l behind (LineRead.is_over d a h s) r x = cc
 
 extends : (form : ℕ) (ls : List (List ℕ)) (n : ℕ) (text : List ℕ) (p q : Policy) → read_lines form n p ls ≡ Ok q → Extends p (accepted_lines (lines_from form n text ls)) q
 unfolding read_lines accepted_lines lines_from rules_in constraints_in

@@ -1,6 +1,6 @@
 -- The words of a line read back, and when a line stands at the start of words.
 use Rattle.std.proofs.Common.{ℕ, true, List, [], ◌∷◌, ◌++◌, ◌↔◌, ◌≡◌, refl, ap, ◌∙◌, arith, eq-eqb, length, drop, Option, Some, None}
-use Rattle.policy.proofs.ListLaws.{and_in, and_out}
+use Rattle.std.proofs.lemmas.Bool.{and_from, and_parts}
 use Rattle.policy.specs.Limits.{valid}
 use Rattle.policy.specs.Line.{PolicyLine, heads_of, comparisons_of, ending_of, ending_part}
 use Rattle.std.specs.List.{list_all}
@@ -34,7 +34,7 @@ made_again : (e : Ending) (rest : List LinePart) (cs : List Comparison) (ts : Li
 unfolding decode
 made_again e rest [] [] f = end_added e (decode rest)
 made_again e rest (c ∷ cs) [] f = rw (made_again e rest cs [] f) (comparison_added c [] cs e)
-made_again e rest cs (t ∷ ts) f = let p = and_out (fits (ending_part e) t) (list_all (fits (ending_part e)) ts) f in rw (made_again e rest cs ts p.1) (head_added t ts cs e p.0)
+made_again e rest cs (t ∷ ts) f = let p = and_parts (fits (ending_part e) t) (list_all (fits (ending_part e)) ts) f in rw (made_again e rest cs ts p.1) (head_added t ts cs e p.0)
 
 pub decode_line : (l : PolicyLine) (rest : List ℕ) → valid l ≡ true → decode (said_in 0 (line_words l ++ rest)) ≡ Some l
 decode_line l rest v = rw (line_said l rest v, made_again (ending_of l) (said_in 0 rest) (comparisons_of l) (heads_of l) (heads_fit l), line_again l)
@@ -44,12 +44,12 @@ decode_line l rest v = rw (line_said l rest v, made_again (ending_of l) (said_in
 pub prefix_in : (xs ys : List ℕ) → is_prefix xs (xs ++ ys) ≡ true
 unfolding is_prefix
 prefix_in [] ys = refl
-prefix_in (x ∷ xs) ys = and_in (eq-eqb x x refl) (prefix_in xs ys)
+prefix_in (x ∷ xs) ys = and_from _ _ (eq-eqb x x refl) (prefix_in xs ys)
 
 pub prefix_out : (xs ys : List ℕ) → is_prefix xs ys ≡ true → ys ≡ xs ++ drop (length xs) ys
 unfolding is_prefix
 prefix_out [] ys e = refl
-prefix_out (x ∷ xs) [] e = absurd cc
+prefix_out (x ∷ xs) [] e = cc
 prefix_out (x ∷ xs) (y ∷ ys) e = grind (arith, prefix_out xs ys)
 
 -- a valid line of the part is found where its words stand

@@ -1,10 +1,10 @@
 -- The length of a line as the code finds it: the first word's skip, the ending word, the heads, and the comparisons behind them.
-use Rattle.std.proofs.Common.{ℕ, zero, suc, ◌⊎◌, ◌+◌, ◌-◌, ◌≤◌, ◌<◌, true, false, cond, ◌&&◌, List, [], ◌∷◌, map, ◌≡◌, refl, sym, ap, ◌∙◌, add-zero, arith, length, take, drop, get_or, count_ones, length-drop, length-take, take_all, drop-drop, add-one, get_or-drop, get_or-take, take-take, take-suc, ltb, leb, eqb}
+use Rattle.std.proofs.Common.{ℕ, zero, suc, ◌⊎◌, ◌+◌, ◌-◌, ◌≤◌, ◌<◌, true, false, cond, ◌&&◌, List, [], ◌∷◌, map, ◌≡◌, refl, sym, ap, ◌∙◌, add-zero, arith, length, take, drop, get_or, count_ones, length-drop, length-take, drop-drop, add-one, get_or-drop, get_or-take, take-take, take-suc, ltb, leb, eqb}
 use Rattle.std.proofs.lemmas.Bool.Decides.{leb_tells}
 use Rattle.std.proofs.lemmas.List.{map-append}
 use Rattle.std.proofs.lemmas.Grind.{fold-append}
 use Rattle.policy.specs.Set.{insert}
-use Rattle.word.proofs.ChunkLaws.{words_in_length}
+use Rattle.word.proofs.ChunkLaws.{words_in_length, words_dropped}
 use Rattle.word.specs.Chunk.{words_in}
 use Rattle.word.specs.Word.{word_limit, Below, between}
 use Rattle.operation.specs.Fields.{first_of, skip_of}
@@ -88,11 +88,6 @@ fill_more (suc room) n (w ∷ ws) behind r e b =
 
 -- ---- the words behind a comparison
 
-pub words_dropped : (k : ℕ) (chunks : List (List ℕ)) → words_in (drop k chunks) ≡ drop k (words_in chunks)
-words_dropped zero chunks = refl
-words_dropped (suc k) [] = refl
-words_dropped (suc k) (c ∷ cs) = words_dropped k cs
-
 pub behind_by : (chunks behind : List (List ℕ)) → 0 < comparison_length (get_or (words_in chunks) 0 0) (length chunks) → comparison_length (get_or (words_in chunks) 0 0) (length chunks) ≤ length chunks
     → behind ≡ drop (comparison_length (get_or (words_in chunks) 0 0) (length chunks)) chunks → IsBehind (words_in chunks) (words_in behind)
 behind_by chunks behind p h e = let d = words_dropped (comparison_length (get_or (words_in chunks) 0 0) (length chunks)) chunks in record { some = rw words_in_length p; inside = rw words_in_length h; behind_it = rw (words_in_length, e) d }
@@ -101,10 +96,6 @@ pub comparison_lengths : (w left : ℕ) → w < word_limit → (comparison_lengt
 comparison_lengths w left h = grind (arith, sized, sized_constant, sized_reading, sized_none)
 
 -- ---- the line
-
-pub rest_between : (from n : ℕ) (ws : List ℕ) → length ws ≤ n → between from n ws ≡ drop from ws
-unfolding between
-rest_between from n ws h = ap (drop from) (take_all n ws h)
 
 pub length_none : (form : ℕ) (part : Part) (ws : List ℕ) → length ws ≡ 0 → line_length (line_at form part ws) ≡ 0
 unfolding line_length line_at keep_if decode said_in

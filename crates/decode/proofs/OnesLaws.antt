@@ -1,10 +1,10 @@
 -- Numbers below 64 stand once each exactly where the set of them has as many members.
 use Rattle.std.proofs.Common.{ℕ, suc, ◌+◌, ◌*◌, ◌/◌, ◌%◌, ◌^◌, ◌≤◌, ◌<◌, Bool, true, not, cond, ◌||◌, List, [], ◌∷◌, map, ◌≡◌, refl, sym, ap, ap₂, ◌∙◌, arith, ltb-true, lt-ltb, length, fold, pow_pos, ltb, eqb, bit_or}
+use Rattle.std.proofs.lemmas.Bool.{and_from, and_parts}
 use Rattle.std.proofs.lemmas.Bool.Decides.{nat_tests}
 use Rattle.std.proofs.Math.ListN.{length-map}
 use Rattle.std.proofs.lemmas.Nat.{shr_split, or_block, or_comm, ones_cat}
 use Rattle.std.specs.Int.RustNames.{count_ones}
-use Rattle.policy.proofs.ListLaws.{and_in, and_out}
 use Rattle.policy.proofs.SeenLaws.{seen_repeats}
 use Rattle.policy.proofs.SetLaws.{insert_in}
 use Rattle.policy.specs.Limits.{repeats}
@@ -64,11 +64,11 @@ gathered_more had seen before one list_all k e h = grind (arith, nat_tests)
 gathered : (s : ℕ) (ns : List ℕ) → list_all (λ (n : ℕ). ltb n set_limit) ns ≡ true → (count_ones (fold insert s ns) ≤ count_ones s + length ns) × (eqb (count_ones (fold insert s ns)) (count_ones s + length ns) ≡ not (seen_in s ns))
 unfolding seen_in
 gathered s [] h = grind (arith, nat_tests)
-gathered s (n ∷ ns) h = grind (arith, and_out, gathered_more, ones_has, ltb-true, gathered (insert s n) ns)
+gathered s (n ∷ ns) h = grind (arith, and_parts, gathered_more, ones_has, ltb-true, gathered (insert s n) ns)
 
 firsts_below : (ws : List ℕ) → list_all (λ (n : ℕ). ltb n set_limit) (map first_of ws) ≡ true
 firsts_below [] = refl
-firsts_below (w ∷ ws) = and_in (lt-ltb (first_of w) 64 (omega arith)) (firsts_below ws)
+firsts_below (w ∷ ws) = and_from _ _ (lt-ltb (first_of w) 64 (omega arith)) (firsts_below ws)
 
 -- the first numbers of words
 pub ones_tell : (ws : List ℕ) → eqb (count_ones (numbers_of (map first_of ws))) (length ws) ≡ not (repeats (map first_of ws))

@@ -1,7 +1,7 @@
 -- The words of a line say its parts.
 use Rattle.std.proofs.Common.{ℕ, ◌<◌, ◌≤◌, true, List, [], ◌∷◌, ◌++◌, map, append_assoc, suc, ◌≡◌, refl, ap, arith, ltb-true, length, length-append, get_or}
+use Rattle.std.proofs.lemmas.Bool.{and_parts}
 use Rattle.std.proofs.Math.Seq.{get_or_at}
-use Rattle.policy.proofs.ListLaws.{and_out}
 use Rattle.policy.proofs.ValidLaws.{ValidParts, valid_out, test_in_range}
 use Rattle.policy.specs.Limits.{valid, test_number, comparison_in_range}
 use Rattle.policy.specs.Line.{PolicyLine, heads_of, comparisons_of, ending_of}
@@ -15,7 +15,7 @@ use Rattle.operation.specs.declared.said.LinePart.{LinePart}
 use Rattle.operation.proofs.PartsLaws.{Written, written}
 use Rattle.operation.proofs.SaidLaws.{test_said, ending_said, constant_said, reading_said}
 use Rattle.layout.specs.Layout.{condition_words, part_words, line_words}
-use Rattle.layout.proofs.LayoutLaws.{condition_length, part_length, condition_size_limit}
+use Rattle.layout.proofs.LayoutLaws.{part_length, condition_size_limit, tail_small}
 use Rattle.decode.specs.Steps.Decoding.{said_in}
 
 pub said_in_by : (w : ℕ) (ws : List ℕ) (p : LinePart) → says w (get_or ws 0 0) ≡ p → said_in 0 (w ∷ ws) ≡ p ∷ said_in (constants_of p) ws
@@ -25,9 +25,6 @@ said_in_by w ws p e = ap (λ (x : LinePart). x ∷ said_in (constants_of x) ws) 
 pub comparison_parts : (c : Comparison) (k : ℕ) (ws : List ℕ) → Written c k → said_in 0 (comparison_words c k ++ ws) ≡ LinePart.Comparison c ∷ said_in 0 ws
 unfolding said_in
 comparison_parts c k ws h = grind (arith, constant_said, said_in_by, reading_said)
-
-pub tail_small : (cs : List Comparison) (e : Ending) → length cs ≤ 4 → (0 < length (condition_words cs e)) × (length (condition_words cs e) < 24)
-tail_small cs e l = omega (arith, condition_length cs e, condition_size_limit cs)
 
 -- the words before the last, and what they say
 pub record Front (ts : List Test) (cs : List Comparison) (e : Ending) : Type 0 where
@@ -40,7 +37,7 @@ module _ (e : Ending) where
   unfolding part_words condition_words
   condition_front [] r l = record { words = []; whole = refl; tells = λ rest. refl }
   condition_front (c ∷ cs) r l =
-      let p = and_out (comparison_in_range c) (list_all comparison_in_range cs) r in
+      let p = and_parts (comparison_in_range c) (list_all comparison_in_range cs) r in
       let k : ℕ = length (condition_words cs e) in
       let f = condition_front cs p.1 (omega arith) in
       record {
@@ -53,7 +50,7 @@ module _ (e : Ending) where
   unfolding part_words constants_of
   parts_front cs r few [] t l = condition_front cs r few
   parts_front cs r few (x ∷ xs) t l =
-      let p = and_out (test_in_range x) (list_all test_in_range xs) t in
+      let p = and_parts (test_in_range x) (list_all test_in_range xs) t in
       let k : ℕ = length (part_words xs cs e) in
       let f = parts_front cs r few xs p.1 (omega arith) in
       let small : k < 32 = omega (arith, part_length xs cs e, condition_size_limit cs) in

@@ -1,7 +1,8 @@
 -- The line that is read from the words of a line is that line.
 use Rattle.std.proofs.Common.{ℕ, zero, suc, ◌+◌, ◌-◌, ◌≤◌, ◌<◌, true, List, [], ◌∷◌, ◌++◌, map, append-nil, ◌≡◌, refl, sym, ap, arith, lt-ltb, ltb-true, length, take, drop, length-append, add-one, take_at, drop-drop, drop-cons, drop_of_length-le, fold, get_or}
+use Rattle.std.proofs.lemmas.List.Folds.{list_all-append}
+use Rattle.std.proofs.lemmas.Bool.{and_parts}
 use Rattle.std.proofs.Math.Seq.{append_snoc}
-use Rattle.policy.proofs.ListLaws.{and_out, all_append}
 use Rattle.policy.specs.Limits.{valid}
 use Rattle.policy.specs.Line.{PolicyLine, heads_of, comparisons_of, ending_of, ending_part, line_part}
 use Rattle.std.specs.List.{list_all}
@@ -46,7 +47,7 @@ module _ (part : Part) where
   read_parts : (cs : List Comparison) → length cs ≤ 4 → (ts hs : List Test) → list_all (fits part) ts ≡ true → length hs + length ts ≤ 8
       → fold (with_part part) (record { heads = hs; comparisons = [] }) (map LinePart.Head ts ++ map LinePart.Comparison cs) ≡ record { heads = hs ++ ts; comparisons = cs }
   read_parts cs few [] hs f l = rw append-nil (read_comparisons hs cs [] (omega (arith, few)))
-  read_parts cs few (x ∷ xs) hs f l = grind (arith, and_out, with_head, length-append, append_snoc, read_parts cs few xs (hs ++ x ∷ []))
+  read_parts cs few (x ∷ xs) hs f l = grind (arith, and_parts, with_head, length-append, append_snoc, read_parts cs few xs (hs ++ x ∷ []))
 
 -- ---- the words of a line
 
@@ -85,7 +86,7 @@ past_constants (suc k) (w ∷ ws) = past_constants k ws
 module _ (part : Part) where
   part_fits : (parts : Parts) (p : LinePart) → list_all (fits part) parts.heads ≡ true → list_all (fits part) (with_part part parts p).heads ≡ true
   unfolding with_part
-  part_fits parts p h = grind (arith, all_append)
+  part_fits parts p h = grind (arith, list_all-append)
 
   module _ (ws : List ℕ) where
     -- a part and its constants are read
@@ -113,7 +114,7 @@ line_done ws words n part parts at e k i j f h l =
 skip_first : (ts : List Test) (cs : List Comparison) (e : Ending) (rest : List ℕ) → ValidParts ts cs e → skip_of (get_or (part_words ts cs e ++ rest) 0 0) + 1 ≡ length (part_words ts cs e)
 unfolding part_words
 skip_first [] cs e rest v = absurd (omega (arith, v.some))
-skip_first (t ∷ ts) cs e rest v = grind (arith, part_length, condition_size_limit, test_skip, ltb-true, and_out, test_in_range)
+skip_first (t ∷ ts) cs e rest v = grind (arith, part_length, condition_size_limit, test_skip, ltb-true, and_parts, test_in_range)
 
 -- the first skip of a valid line tells where it ends
 pub first_skip : (l : PolicyLine) (rest : List ℕ) → valid l ≡ true → skip_of (get_or (line_words l ++ rest) 0 0) + 1 ≡ length (line_words l)

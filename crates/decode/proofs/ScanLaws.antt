@@ -1,7 +1,7 @@
 -- Going over a line: the words of a valid line pass, and what passes is a valid line.
 use Rattle.std.proofs.Common.{ℕ, zero, suc, ◌+◌, ◌-◌, ◌%◌, ◌^◌, ◌≤◌, ◌<◌, true, false, cond, ◌&&◌, List, [], ◌∷◌, ◌++◌, map, append_assoc, ◌≡◌, refl, sym, ap, ap₂, ◌∙◌, arith, ltb-true, length, drop, length-append, eqb, get_or}
+use Rattle.std.proofs.lemmas.Bool.{and_parts}
 use Rattle.std.proofs.lemmas.Bool.Decides.{nat_tests}
-use Rattle.policy.proofs.ListLaws.{and_out}
 use Rattle.policy.specs.Limits.{valid, test_number, comparison_in_range, ending_in_range, ending_allowed}
 use Rattle.policy.specs.Line.{PolicyLine, ending_of, ending_part, line_part}
 use Rattle.std.specs.List.{list_all}
@@ -9,7 +9,7 @@ use Rattle.policy.specs.declared.comparison.Comparison.{Comparison}
 use Rattle.policy.specs.declared.line.Ending.{Ending}
 use Rattle.policy.specs.declared.line.Test.{Test}
 use Rattle.operation.proofs.PartsLaws.{Compares, Written, with_constant, with_reading, written, test_skip, test_first, test_low, test_again}
-use Rattle.layout.proofs.LayoutLaws.{condition_length, part_length, condition_size_limit}
+use Rattle.layout.proofs.LayoutLaws.{condition_length, part_length, condition_size_limit, tail_small}
 use Rattle.policy.proofs.ValidLaws.{ValidParts, valid_out, test_in_range}
 use Rattle.line_value.proofs.LineLaws.{heads_fit}
 use Rattle.line_value.specs.Value.{fits, line_of}
@@ -21,7 +21,7 @@ use Rattle.operation.specs.declared.said.LinePart.{LinePart}
 use Rattle.operation.specs.Said.{says_by, says}
 use Rattle.operation.proofs.SaidLaws.{said_head, said_constant, said_reading, said_ending, said_nothing, said, said_by, test_said, ending_said}
 use Rattle.layout.specs.Layout.{condition_words, part_words, line_words}
-use Rattle.decode.proofs.PartLaws.{tail_small, last_word}
+use Rattle.decode.proofs.PartLaws.{last_word}
 use Rattle.decode.specs.Stands.{in_part}
 use Rattle.decode.specs.Steps.Scan.{is_head, is_ending_of, is_ending, head_sound, count_heads, head_numbers, constant_sound, reading_sound, operand_length, length_by, comparison_length, comparisons_fill, scan_line}
 use Rattle.operation.specs.Whole.{ends}
@@ -108,7 +108,7 @@ module _ (part : Part) (e : Ending) (rest : List ℕ) where
   condition_fills (c ∷ cs) zero f g r = absurd (omega arith)
   condition_fills (c ∷ cs) (suc room) f g r =
       let t = tail_small cs e (omega arith) in
-      let p = and_out (comparison_in_range c) (list_all comparison_in_range cs) r in
+      let p = and_parts (comparison_in_range c) (list_all comparison_in_range cs) r in
       let k : ℕ = length (condition_words cs e) in
       rw (length-append (comparison_words c k) (condition_words cs e), append_assoc (comparison_words c k) (condition_words cs e) rest)
       (fill_written c k room (condition_words cs e ++ rest) (written c k p.0 (omega arith)) t.0 ∙ condition_fills cs room (omega arith) (omega arith) p.1)
@@ -120,7 +120,7 @@ module _ (part : Part) (e : Ending) (rest : List ℕ) where
   condition_headless [] (suc m) g r l = absurd (omega arith)
   condition_headless (c ∷ cs) (suc m) g r l =
       let t = tail_small cs e (omega arith) in
-      rw (headless_written part c (length (condition_words cs e)) (suc m) (condition_words cs e) rest (written c _ (and_out (comparison_in_range c) (list_all comparison_in_range cs) r).0 (omega arith)))
+      rw (headless_written part c (length (condition_words cs e)) (suc m) (condition_words cs e) rest (written c _ (and_parts (comparison_in_range c) (list_all comparison_in_range cs) r).0 (omega arith)))
 
   heads_counted : (cs : List Comparison) → length cs ≤ 4 → list_all comparison_in_range cs ≡ true → (ts : List Test) (m : ℕ) → length ts ≤ 8
       → list_all test_in_range ts ≡ true → list_all (fits part) ts ≡ true → length (part_words ts cs e) ≡ suc m
@@ -129,8 +129,8 @@ module _ (part : Part) (e : Ending) (rest : List ℕ) where
   heads_counted cs f r [] m h k o l = (condition_headless cs m f r (omega arith), refl)
   heads_counted cs f r (x ∷ xs) zero h k o l = absurd (omega (arith, part_length xs cs e, condition_size_limit cs))
   heads_counted cs f r (x ∷ xs) (suc m) h k o l =
-      let p = and_out (test_in_range x) (list_all test_in_range xs) k in
-      let q = and_out (fits part x) (list_all (fits part) xs) o in
+      let p = and_parts (test_in_range x) (list_all test_in_range xs) k in
+      let q = and_parts (fits part x) (list_all (fits part) xs) o in
       let j : suc m ≡ length (part_words xs cs e) = omega arith in
       let head = head_written part x (length (part_words xs cs e)) p.0 q.0 (omega (arith, part_length xs cs e, condition_size_limit cs)) in
       let later = heads_counted cs f r xs m (omega arith) p.1 q.1 (sym j) in
@@ -171,7 +171,7 @@ parts_found form part (t ∷ ts) cs e rest v k n =
     let size = tail_small cs e v.few_comparisons in
     let small : m < 32 = omega (arith, v.few_tests, part_length ts cs e, condition_length cs e) in
     let within : m < length ws = omega (arith, length-append (part_words ts cs e) rest) in
-    let first : test_number t < 64 = ltb-true (test_number t) 64 (and_out (test_in_range t) (list_all test_in_range ts) v.tests).0 in
+    let first : test_number t < 64 = ltb-true (test_number t) 64 (and_parts (test_in_range t) (list_all test_in_range ts) v.tests).0 in
     let left : m - suc (length ts) ≡ length (condition_words cs e) - 1 = omega (arith, part_length ts cs e, condition_length cs e) in
     let heads = heads_counted part e rest cs v.few_comparisons v.comparisons (t ∷ ts) m v.few_tests v.tests k refl in
     rw (test_skip t m first small, heads.0, heads.1, last_word (t ∷ ts) cs e v rest m refl, n, v.distinct, heads_dropped part e rest ts cs, left, condition_fills part e rest cs 4 v.few_comparisons v.few_comparisons v.comparisons)

@@ -1,7 +1,7 @@
 -- What a scan takes is a line: the scan finds the lines that `line_at` finds.
 use Rattle.std.proofs.Common.{ℕ, zero, suc, ◌+◌, ◌-◌, ◌≤◌, ◌<◌, Bool, true, false, not, cond, ◌&&◌, List, [], ◌∷◌, ◌++◌, map, append_assoc, ◌⊎◌, inl, inr, ◌≡◌, refl, sym, ap, ◌∙◌, arith, lt-ltb, ne_eqb, length, drop, length-append, Option, Some, None, ltb, leb, get_or}
+use Rattle.std.proofs.lemmas.Bool.{and_from}
 use Rattle.std.proofs.lemmas.Bool.Decides.{nat_tests}
-use Rattle.policy.proofs.ListLaws.{and_in}
 use Rattle.policy.specs.Limits.{repeats, test_number, comparison_in_range}
 use Rattle.policy.specs.Line.{PolicyLine, comparisons_of, ending_of}
 use Rattle.std.specs.List.{list_all}
@@ -52,7 +52,7 @@ behind_more form part room m n c ws rest t i e size =
       rest = t.rest;
       words = rw (t.size, append_assoc, ← t.words) (sym e);
       size = rw (t.size, length-append, t.size) size;
-      sound = and_in i t.sound;
+      sound = and_from _ _ i t.sound;
       few = let f = t.few in omega arith;
     }
 
@@ -112,8 +112,8 @@ line_head form part h m w ws l f t =
       tests = r.test ∷ t.tests;
       behind = record { comparisons = b.comparisons; last = b.last; end = b.end; rest = b.rest; words = rw (b.size, r.word) (cc b.words); size = ap suc b.size; sound = b.sound; few = b.few };
       count = ap suc t.count;
-      in_range = and_in (lt-ltb (test_number r.test) 64 first) t.in_range;
-      fit = and_in r.fit t.fit;
+      in_range = and_from _ _ (lt-ltb (test_number r.test) 64 first) t.in_range;
+      fit = and_from _ _ r.fit t.fit;
       numbers = cc (r.number, t.numbers);
     }
 

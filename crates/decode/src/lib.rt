@@ -224,7 +224,7 @@ fn comparisons_sound(words: &[[u8; 4]]) -> bool
 /// How many words the line of the part has with which the words begin, in an image of the form: 0 where they begin with none that an
 /// accepted text for it may have.
 // As many numbers as heads: none stands twice. Each test leaves at once.
-#[tactic(auto, using(crate::proofs::LengthLaws::length_is, crate::proofs::LengthLaws::length_none, crate::proofs::LengthLaws::head_count_limit, crate::proofs::LengthLaws::rest_between, std::proofs::lemmas::Bool::Decides::nat_tests, word::proofs::ChunkLaws::words_in_length))]
+#[tactic(auto, using(crate::proofs::LengthLaws::length_is, crate::proofs::LengthLaws::length_none, crate::proofs::LengthLaws::head_count_limit, word::proofs::WordLaws::rest_between, std::proofs::lemmas::Bool::Decides::nat_tests, word::proofs::ChunkLaws::words_in_length))]
 #[inline(always)]
 pub fn line_length(words: &[[u8; 4]], form: u8, part: Part) -> usize
     ensures { result ≡ line_length (line_at form part (words_in words.now)) }

@@ -1,8 +1,7 @@
 -- Images and what the decompiler makes of them, one row each: a worked example, a line with every kind of part,
 -- patterns, a rule that triggers, and the order of the faults. A buffer is full of dots at first.
-use Rattle.std.specs.Prelude.{Result, Ok, Err}
+use Rattle.std.specs.Prelude.{Result, Ok, Err, ℕ, List, [], ◌∷◌, replicate, Option, Some, None}
 use Rattle.std.specs.Str.{byte}
-use Rattle.std.specs.Prelude.{ℕ, List, [], ◌∷◌, replicate, Option, Some, None}
 use Prim.Native.String.{String}
 use Rattle.policy.specs.Fault.{refusal}
 use Rattle.policy.specs.Fill.{Filled}

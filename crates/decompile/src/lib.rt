@@ -22,7 +22,7 @@ pub const TEXT_SIZE: usize = 28224;
 
 /// The texts of the lines, one after another.
 #[inline(always)]
-#[tactic(auto, using(printer::proofs::LinkLaws::put_laws), unfolding(crate::specs::Steps::Walk::text_of_values))]
+#[tactic(auto, using(output::proofs::SinkLaws::put_laws), unfolding(crate::specs::Steps::Walk::text_of_values))]
 fn put_lines<S: Sink>(sink: &mut S, lines: Walker<'_>)
     ensures { sink.new ≡ fed S.taken sink.old (text_of_values (lines_ahead lines.entry)) }
 {
@@ -32,7 +32,7 @@ fn put_lines<S: Sink>(sink: &mut S, lines: Walker<'_>)
 }
 
 /// The texts of the rules, and then those of the constraints.
-#[tactic(auto, using(printer::proofs::LinkLaws::put_laws, crate::proofs::TextLaws::first_lines), unfolding(crate::specs::Steps::Walk::parts_text))]
+#[tactic(auto, using(output::proofs::SinkLaws::put_laws, crate::proofs::TextLaws::first_lines), unfolding(crate::specs::Steps::Walk::parts_text))]
 fn put_text<S: Sink>(sink: &mut S, image: &Image<'_>)
     ensures { sink.new ≡ fed S.taken sink.old (text_in (image_contents image.now)) }
 {

@@ -154,7 +154,7 @@ module _ (line front : List ℕ) (skipped : front ≡ without_spaces line) (m : 
   part = grind arith
 
   token_shorter : (t : List ℕ) → is_empty (token_in t) ≡ false → length (behind_token t) < length t
-  token_shorter [] h = absurd cc
+  token_shorter [] h = cc
   token_shorter (b ∷ t) h = grind (arith, drop_shorter in_token t)
 
   pub item_shorter : length rest < length line

@@ -1,6 +1,6 @@
 -- The loader takes exactly the images of policies that an accepted text may have, refuses others at the right location, and
 -- refuses every image in which one word was changed.
-use Rattle.std.proofs.Common.{ℕ, zero, suc, ◌+◌, ◌%◌, ◌≤◌, ◌<◌, Bool, true, false, List, [], ◌∷◌, map, ◌↔◌, ◌≡◌, refl, sym, ap, ◌∙◌, arith, eqb-true, length, take, take-append-drop, length-set, length-append, Result, Ok, Err, get_or, set}
+use Rattle.std.proofs.Common.{ℕ, ◌+◌, ◌%◌, ◌≤◌, ◌<◌, Bool, true, false, List, map, ◌↔◌, ◌≡◌, refl, sym, ap, ◌∙◌, arith, eqb-true, length, take, take-append-drop, length-set, length-append, Result, Ok, Err, get_or, set}
 use Rattle.std.proofs.lemmas.Bool.Decides.{nat_tests}
 use Rattle.std.proofs.Math.ListN.{length-map}
 use Rattle.policy.specs.Fault.{fault_number, refusal}
@@ -9,13 +9,13 @@ use Rattle.policy.specs.Line.{PolicyLine, rule, constraint}
 use Rattle.policy.specs.Policy.{Policy}
 use Rattle.policy.specs.declared.fault.Fault.{Fault}
 use Rattle.policy.specs.declared.fault.Refusal.{Refusal}
-use Rattle.exactness.proofs.ImageLaws.{below_append, below_cons, lines_below, rules_between, constraints_between, rules_size, constraints_size, content_of}
+use Rattle.exactness.proofs.ImageLaws.{lines_below, rules_between, constraints_between, rules_size, constraints_size, content_of}
 use Rattle.image.proofs.HeldLaws.{counted, HeldParts, held_parts, taken_parts}
 use Rattle.exactness.proofs.PartLines.{lines_limit, lines_found, part_whole_exactly, part_fault_exactly, rules_kind, constraints_kind, rules_allowed, rules_back, constraints_back}
 use Rattle.decode.specs.Stands.{AreLines}
 use Rattle.layout.proofs.CheckLaws.{form_below, limits_small, checks_few, size_fits, checks_length, checks_below, checks_sum, checks_found, weighted_made}
 use Rattle.layout.proofs.SumLaws.{sum_set}
-use Rattle.word.proofs.WordLaws.{words_length, words_below, words_of_bytes, bytes_of_words, bytes_length}
+use Rattle.word.proofs.WordLaws.{words_length, words_below, words_of_bytes, bytes_of_words, bytes_length, below_append, below_cons, set_below}
 use Rattle.layout.proofs.HeaderLaws.{header_below, form_header, rules_header, constraints_header, header_fields}
 use Rattle.word.specs.Word.{word_limit, Bytes, words_of, word_at, between, Below}
 use Rattle.layout.specs.Header.{pack_header, form_of, rule_count_of, constraint_count_of}
@@ -121,9 +121,6 @@ module _ (form : ℕ) (known : known_form form ≡ true) (p : Policy) (ok : Acce
   image_holds = grind (arith, image_words_is, rule_lines_is, constraint_lines_is, rules_back, constraints_back)
 
 -- ---- what the loader answers, taken apart
-
-abbrev pub refused_with : Refusal → Result Contents Refusal
-refused_with r = Err r
 
 -- which check it stopped at
 pub data Answered (bytes : List ℕ) : Type 0 where
@@ -303,13 +300,6 @@ refusals bytes r e = go r ((image_refused_exactly bytes r).0 e)
     go s (no_constraint c rs w n h) = let a = among _ _ _ _ n _ h in let z = part_sizes _ c.checked.count in of_body refl refl (omega (arith, a)) (omega (arith, a, z))
 
 -- ---- one word changed
-
-pub set_below : (ws : List ℕ) (i v : ℕ) → v < word_limit → Below word_limit ws → Below word_limit (set ws i v)
-set_below [] i v h b j = b j
-set_below (w ∷ ws) zero v h b zero = h
-set_below (w ∷ ws) zero v h b (suc j) = b (suc j)
-set_below (w ∷ ws) (suc i) v h b zero = b 0
-set_below (w ∷ ws) (suc i) v h b (suc j) = set_below ws i v h (λ k. b (suc k)) j
 
 -- its words are the others and v; it has as many bytes
 pub changed_words : (bytes : List ℕ) → Bytes bytes → (i v : ℕ) → v < word_limit → words_of (changed bytes i v) ≡ set (words_of bytes) i v

@@ -1,6 +1,6 @@
 -- Laws of whole images: that their words are words, and their parts.
-use Rattle.std.proofs.Common.{ℕ, zero, suc, ◌+◌, ◌<◌, ◌≤◌, true, List, [], ◌∷◌, ◌++◌, append_assoc, ◌≡◌, sym, ◌∙◌, arith, ltb-true, length, take, length-append, length-take, length-drop, take-append-drop, drop-cons, take_at, drop_at, take-take, get_or-take, get_or}
-use Rattle.policy.proofs.ListLaws.{and_out}
+use Rattle.std.proofs.Common.{ℕ, suc, ◌+◌, ◌<◌, ◌≤◌, true, List, [], ◌∷◌, ◌++◌, append_assoc, ◌≡◌, sym, ◌∙◌, arith, ltb-true, length, take, length-append, length-take, length-drop, take-append-drop, drop-cons, take_at, drop_at, take-take, get_or-take, get_or}
+use Rattle.std.proofs.lemmas.Bool.{and_parts}
 use Rattle.policy.specs.Limits.{valid, comparison_in_range, ending_in_range}
 use Rattle.operation.specs.Parts.{comparison_words, ending_word}
 use Rattle.word.specs.Word.{word_limit, between, Below}
@@ -14,20 +14,9 @@ use Rattle.policy.specs.declared.line.Test.{Test}
 use Rattle.operation.proofs.PartsLaws.{Written, written, test_below, ending_below}
 use Rattle.layout.proofs.LayoutLaws.{condition_length, part_length, condition_size_limit}
 use Rattle.policy.proofs.ValidLaws.{valid_out, test_in_range}
+use Rattle.word.proofs.WordLaws.{below_append, below_cons, below_none}
 
 -- ---- words below 2 ^ 32
-
-pub below_append : (k : ℕ) (a b : List ℕ) → Below k a → Below k b → Below k (a ++ b)
-below_append k [] b ha hb i = hb i
-below_append k (x ∷ a) b ha hb zero = ha 0
-below_append k (x ∷ a) b ha hb (suc i) = below_append k a b (λ j. ha (suc j)) hb i
-
-pub below_cons : (k w : ℕ) (ws : List ℕ) → w < k → Below k ws → Below k (w ∷ ws)
-below_cons k w ws h b zero = h
-below_cons k w ws h b (suc i) = b i
-
-pub below_none : Below word_limit []
-below_none i = omega arith
 
 comparison_below : (c : Comparison) (k : ℕ) → Written c k → Below word_limit (comparison_words c k)
 comparison_below c k h = grind arith
@@ -36,14 +25,14 @@ condition_below : (cs : List Comparison) (e : Ending) → list_all comparison_in
 unfolding condition_words condition_size comparisons_size
 condition_below [] e r h l = below_cons word_limit (ending_word e) [] (ending_below e h) below_none
 condition_below (c ∷ cs) e r h l =
-    let p = and_out (comparison_in_range c) (list_all comparison_in_range cs) r in
+    let p = and_parts (comparison_in_range c) (list_all comparison_in_range cs) r in
     below_append word_limit (comparison_words c (length (condition_words cs e))) (condition_words cs e)
     (comparison_below c (length (condition_words cs e)) (written c (length (condition_words cs e)) p.0 (omega (arith, condition_length cs e)))) (condition_below cs e p.1 h (omega arith))
 
 parts_below : (ts : List Test) (cs : List Comparison) (e : Ending) → list_all test_in_range ts ≡ true → list_all comparison_in_range cs ≡ true → ending_in_range e ≡ true → length ts + condition_size cs < 32 → Below word_limit (part_words ts cs e)
 unfolding part_words
 parts_below [] cs e t r h l = condition_below cs e r h (omega arith)
-parts_below (x ∷ xs) cs e t r h l = grind (arith, and_out, test_in_range, below_cons, test_below, ltb-true, part_length, parts_below xs cs e)
+parts_below (x ∷ xs) cs e t r h l = grind (arith, and_parts, test_in_range, below_cons, test_below, ltb-true, part_length, parts_below xs cs e)
 
 line_below : (l : PolicyLine) → valid l ≡ true → Below word_limit (line_words l)
 unfolding line_words
@@ -52,7 +41,7 @@ line_below l v = grind (arith, valid_out, parts_below, condition_size_limit)
 pub lines_below : (ls : List PolicyLine) → list_all valid ls ≡ true → Below word_limit (lines_words ls)
 unfolding lines_words
 lines_below [] v = below_none
-lines_below (l ∷ ls) v = grind (arith, and_out, below_append, line_below, lines_below ls)
+lines_below (l ∷ ls) v = grind (arith, and_parts, below_append, line_below, lines_below ls)
 
 -- ---- the parts of an image
 

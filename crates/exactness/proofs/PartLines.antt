@@ -1,6 +1,6 @@
 -- The lines of a part: all that are written are found, and what is found was written.
 use Rattle.std.proofs.Common.{ℕ, zero, suc, ◌+◌, ◌*◌, ◌≤◌, ◌<◌, true, List, [], ◌∷◌, ◌++◌, map, append_assoc, ◌⊎◌, inl, inr, ◌↔◌, ◌≡◌, refl, sym, ap, ◌∙◌, add-zero, arith, length, drop, length-append, drop_at, Result, Ok, Err, Option, Some, None}
-use Rattle.policy.proofs.ListLaws.{and_in, and_out}
+use Rattle.std.proofs.lemmas.Bool.{and_from, and_parts}
 use Rattle.policy.specs.Limits.{allowed, valid}
 use Rattle.policy.specs.Line.{PolicyLine, rule, constraint}
 use Rattle.std.specs.List.{list_all}
@@ -28,7 +28,7 @@ line_limit_is l v = grind (arith, valid_out, part_length, condition_size_limit)
 pub lines_limit : (ls : List PolicyLine) → list_all valid ls ≡ true → length (lines_words ls) ≤ 17 * length ls
 unfolding lines_words
 lines_limit [] v = omega arith
-lines_limit (l ∷ ls) v = grind (arith, and_out, line_limit_is, length-append, lines_limit ls)
+lines_limit (l ∷ ls) v = grind (arith, and_parts, line_limit_is, length-append, lines_limit ls)
 
 -- ---- all that are written are found
 
@@ -43,7 +43,7 @@ module _ (form : ℕ) (part : Part) where
   lines_found [] zero at k v h = refl
   lines_found [] (suc room) at k v h = refl
   lines_found (l ∷ ls) zero at k v h = absurd (omega arith)
-  lines_found (l ∷ ls) (suc room) at k v h = grind (arith, and_out, line_step, lines_found ls room)
+  lines_found (l ∷ ls) (suc room) at k v h = grind (arith, and_parts, line_step, lines_found ls room)
 
   -- ---- where none fits
 
@@ -58,7 +58,7 @@ module _ (form : ℕ) (part : Part) where
       record {
         front = line_words l ++ h.front;
         before = l ∷ h.before;
-        lines = record { kind = and_in s.kind h.lines.kind; sound = and_in s.sound h.lines.sound; few = omega (arith, h.lines.few); words = ap (λ (x : List ℕ). line_words l ++ x) h.lines.words };
+        lines = record { kind = and_from _ _ s.kind h.lines.kind; sound = and_from _ _ s.sound h.lines.sound; few = omega (arith, h.lines.few); words = ap (λ (x : List ℕ). line_words l ++ x) h.lines.words };
         rest = h.rest;
         words = s.words ∙ ap (λ (x : List ℕ). line_words l ++ x) h.words ∙ sym (append_assoc (line_words l) h.front h.rest);
         located = omega (arith, h.located, length-append (line_words l) h.front);
@@ -72,9 +72,9 @@ module _ (form : ℕ) (part : Part) where
 
   pub lines_fault : (room at location : ℕ) (ws : List ℕ) → lines_from form part room at ws ≡ Err location → NoLineAt form part room at ws location
   unfolding lines_from
-  lines_fault zero at location [] e = absurd cc
+  lines_fault zero at location [] e = cc
   lines_fault zero at location (w ∷ ws) e = fault_here zero at location (w ∷ ws) (cc) (omega arith) (inl refl)
-  lines_fault (suc room) at location [] e = absurd cc
+  lines_fault (suc room) at location [] e = cc
   lines_fault (suc room) at location (w ∷ ws) e = go (after_err at location (line_at form part (w ∷ ws)) next e) (λ l. lines_fault room (at + length (line_words l)) location (drop (length (line_words l)) (w ∷ ws)))
     where
       next : PolicyLine → Result (List PolicyLine) ℕ
@@ -108,7 +108,7 @@ module _ (form : ℕ) (part : Part) where
     behind_lines [] (suc room) at k v f (inl q) = absurd (omega arith)
     behind_lines [] (suc room) at k v f (inr n) = rw (add-zero, lines_next form part room at rest more, none_here n)
     behind_lines (l ∷ ls) zero at k v f n = absurd (omega arith)
-    behind_lines (l ∷ ls) (suc room) at k v f n = grind (arith, and_out, length-append, append_assoc, line_step, behind_lines ls room)
+    behind_lines (l ∷ ls) (suc room) at k v f n = grind (arith, and_parts, length-append, append_assoc, line_step, behind_lines ls room)
 
   pub no_line_fault : (room at location : ℕ) (ws : List ℕ) → NoLineAt form part room at ws location → lines_from form part room at ws ≡ Err location
   no_line_fault room at location ws h = rw (h.words, h.located, h.lines.words) (behind_lines h.rest h.more h.before room at h.lines.kind h.lines.sound h.lines.few h.none_fits)

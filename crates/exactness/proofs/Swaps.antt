@@ -11,7 +11,7 @@ use Rattle.policy.specs.declared.fault.Fault.{Fault}
 use Rattle.policy.specs.declared.line.Ending.{Ending}
 use Rattle.policy.specs.declared.line.Test.{Test}
 use Rattle.word.specs.Word.{word_limit, Bytes, words_of, word_at, Below}
-use Rattle.word.proofs.WordLaws.{bytes_below, words_length, words_below, words_of_bytes, bytes_length}
+use Rattle.word.proofs.WordLaws.{bytes_below, words_length, words_below, words_of_bytes, bytes_length, set_below}
 use Rattle.operation.specs.Fields.{pack}
 use Rattle.operation.specs.Parts.{test_operation, test_word, operand_word, comparison_word, comparison_words, effect_operation, ending_word}
 use Rattle.layout.specs.Header.{form_of}
@@ -21,7 +21,7 @@ use Rattle.layout.proofs.SwapLaws.{sum_swapped, behind_swapped, before_swapped, 
 use Rattle.image.specs.Check.{rule_words, constraint_words, form_byte, counts_fit, sums_to_zero, weights_right}
 use Rattle.image.specs.Load.{load_words, load}
 use Rattle.image.proofs.HeldLaws.{counted}
-use Rattle.exactness.proofs.Exact.{set_below, image_taken, image_words_is, form_is, rules_are, constraints_are, took, whole_words}
+use Rattle.exactness.proofs.Exact.{image_taken, image_words_is, form_is, rules_are, constraints_are, took, whole_words}
 use Rattle.exactness.specs.Exact.{contents_of, exchanged, exchange_fault, Weighed}
 
 -- ---- the first word of a line is no word 0 of a known form

@@ -1,8 +1,8 @@
 -- A line is judged by running its words: they are read back from the small buffer as they were put there, and they say what the
 -- line says.
 use Rattle.std.proofs.Common.{ℕ, ◌+◌, ◌*◌, ◌<◌, Bool, true, cond, ◌&&◌, List, [], ◌∷◌, append-nil, ◌≡◌, refl, sym, ap, ◌∙◌, arith, ltb-true, length, replicate, drop, take_at}
+use Rattle.std.proofs.lemmas.Bool.{and_from}
 use Rattle.std.proofs.lemmas.List.{length-replicate}
-use Rattle.policy.proofs.ListLaws.{and_in}
 use Rattle.policy.proofs.SetLaws.{has_empty, has_insert_same, has_insert_other}
 use Rattle.policy.proofs.ValidLaws.{valid_out}
 use Rattle.policy.specs.declared.epoch.Epoch.{Epoch}
@@ -44,7 +44,7 @@ words_back l w =
 
 module _ (l : PolicyLine) (v : valid l ≡ true) where
   alone : list_all valid (l ∷ []) ≡ true
-  alone = and_in v refl
+  alone = and_from _ _ v refl
 
   alone_words : lines_words (l ∷ []) ≡ line_words l
   unfolding lines_words

@@ -1,6 +1,6 @@
 -- What a policy asks of an answer to an epoch is met by one answer alone, in either mode.
 use Rattle.std.proofs.Common.{ℕ, List, ◌<◌, ◌≡◌, true, false, ◌||◌, sym, ap, ◌∙◌, arith, zero, suc}
-use Rattle.policy.proofs.ListLaws.{not_false_is}
+use Rattle.std.proofs.lemmas.Bool.{true_from_ne_false}
 use Rattle.policy.proofs.SetLaws.{has_union, has_insert_cases, has_below, has_below_past, set_ext}
 use Rattle.policy.specs.declared.epoch.Epoch.{Epoch}
 use Rattle.policy.specs.declared.epoch.Readings.{Readings}
@@ -26,7 +26,7 @@ module _ (Bad : ℕ → Type 0) (more : (s t : ℕ) → Within s t → Bad s →
 
   -- a number that one set keeps is kept by another that keeps no others below it
   kept_too : (s t : ℕ) → Kept s → Kept t → (n : ℕ) → ((m : ℕ) → m < n → has t m ≡ true → has s m ≡ true) → has s n ≡ true → has t n ≡ true
-  kept_too s t ks kt n lower h = grind (arith, not_false_is, has_insert_cases, has_below, has_below_past)
+  kept_too s t ks kt n lower h = grind (arith, true_from_ne_false, has_insert_cases, has_below, has_below_past)
 
   same_under : (s t : ℕ) → Kept s → Kept t → (n m : ℕ) → m < n → has s m ≡ has t m
   same_under s t ks kt zero m h = absurd (omega (arith, h))

@@ -1,7 +1,7 @@
 -- The loader takes exactly the images that some accepted text compiles to, and when it refuses under 11.
 use Rattle.policy.specs.Line.{PolicyLine}
 use Rattle.std.proofs.Common.{ℕ, true, List, [], ◌∷◌, ◌↔◌, ◌≡◌, refl, sym, ap, ◌∙◌, subst, arith, ltb-true, length, Result, Ok, Err, Some}
-use Rattle.policy.proofs.ListLaws.{and_out}
+use Rattle.std.proofs.lemmas.Bool.{and_parts}
 use Rattle.policy.specs.Fault.{refusal}
 use Rattle.policy.specs.Limits.{Acceptable}
 use Rattle.std.specs.List.{list_all}
@@ -26,8 +26,8 @@ use Rattle.guarantees.specs.Claims.{CompilesTo, SomeText}
 
 ascii_bytes : (s : List ℕ) → list_all ascii s ≡ true → Bytes s
 ascii_bytes [] h i = omega arith
-ascii_bytes (b ∷ s) h ℕ.zero = let l = ltb-true b 128 (and_out (ascii b) (list_all ascii s) h).0 in omega arith
-ascii_bytes (b ∷ s) h (ℕ.suc i) = ascii_bytes s (and_out (ascii b) (list_all ascii s) h).1 i
+ascii_bytes (b ∷ s) h ℕ.zero = let l = ltb-true b 128 (and_parts (ascii b) (list_all ascii s) h).0 in omega arith
+ascii_bytes (b ∷ s) h (ℕ.suc i) = ascii_bytes s (and_parts (ascii b) (list_all ascii s) h).1 i
 
 -- the text printed from a policy compiles to the policy's image, in each form
 pub printed_compiles : (form : ℕ) → known_form form ≡ true → (p : Policy) → Acceptable form p → CompilesTo form (text_of p) (image_of form p)

@@ -1,9 +1,10 @@
 -- When an action is explained, what is told of it, and which part of which text is shown.
 use Rattle.std.proofs.Common.{ℕ, ◌<◌, ◌≤◌, ⊎_elim, Bool, true, false, List, [], ◌∷◌, ◌++◌, Contains, ◌↔◌, ◌≡◌, refl, sym, ap, ◌∙◌, subst, arith, lt-ltb, le-ltb, Result, Some, Ok, Err}
+use Rattle.std.proofs.lemmas.Bool.{and_from, and_parts}
 use Rattle.std.specs.Result.{result_ok}
 use Rattle.std.proofs.Math.Path.{subst⁻¹}
 use Rattle.std.proofs.lemmas.Bool.Decides.{nat_tests}
-use Rattle.policy.proofs.ListLaws.{true_false, and_in, and_out, contains_first, contains_one}
+use Rattle.policy.proofs.ListLaws.{contains_first, contains_one}
 use Rattle.policy.specs.declared.epoch.Epoch.{Epoch}
 use Rattle.policy.specs.Fault.{refusal}
 use Rattle.policy.specs.Line.{PolicyLine, rule, constraint}
@@ -22,7 +23,6 @@ use Rattle.pdl.proofs.Resolution.{holds_in, holds_out}
 use Rattle.pdl.specs.Answer.{Answer}
 use Rattle.pdl.specs.Pdl.{Derives}
 use Rattle.pdl.specs.Yield as Yield
-use Rattle.pdl.specs.Yield.{rule_holds}
 use Rattle.epoch_line.specs.Epoch.{read_epoch}
 use Rattle.acceptance.proofs.Forms.{texts_newer}
 use Rattle.acceptance.proofs.Texts.{site_empty}
@@ -35,7 +35,7 @@ use Rattle.explanation.specs.Part.{Stretch, Quote, of_maker, of_site}
 use Rattle.explanation.specs.Why.{causes, is_proposing_rule, is_cancelling_constraint, Explanation, not_proposed, accepted_by, cancelled_by, explanation_for, on_action, on_events, on_epoch, explained, quoted}
 use Rattle.guarantees.proofs.Decisions.{written_yields}
 use Rattle.guarantees.proofs.Agreement.{image_of_texts, alone_writes}
-use Rattle.guarantees.proofs.FirstLaws.{Both, both, rule_line, constraint_line, FirstShown, first_line}
+use Rattle.guarantees.proofs.FirstLaws.{Both, both, listed_line, FirstShown, first_line}
 use Rattle.guarantees.specs.Claims.{CompilesTo, TextsCompileTo}
 use Rattle.guarantees.specs.Decisions.{yield_of}
 use Rattle.guarantees.specs.Explanations.{action, IsExplainable, Unexplained, the_texts, the_line, the_action, TellsOutcome, Proposes, Cancels, QuotedStraight, FirstLine}
@@ -119,11 +119,11 @@ causes_own a = grind (arith, nat_tests)
 -- a line passes a test of the definitions exactly where it says so in the terms of specs/Pdl of `pdl`
 proposed_means : (e : Epoch) (a : Action) → a.0 < 64 → (l : PolicyLine) → (is_proposing_rule e a l ≡ true) ↔ Proposes e a l
 unfolding is_proposing_rule
-proposed_means e a small l = grind (arith, true_false, and_out, causes_is, rule_derives, contains_first, contains_one, and_in, rule_holds_is, causes_own)
+proposed_means e a small l = grind (arith, and_parts, causes_is, rule_derives, contains_first, contains_one, and_from, rule_holds_is, causes_own)
 
 cancelled_means : (e : Epoch) (accepts : ActionSet) (a : Action) (l : PolicyLine) → (is_cancelling_constraint e.readings accepts a l ≡ true) ↔ Cancels e accepts a l
 unfolding is_cancelling_constraint
-cancelled_means e accepts a l = grind (arith, true_false, holds_out, holds_in)
+cancelled_means e accepts a l = grind (arith, holds_out, holds_in)
 
 -- ---- what is told, and what is shown
 
@@ -132,7 +132,7 @@ module _ (maker site : List ℕ) (p : Policy) (e : Epoch) (a : Action) (small : 
   by_rule : has_action (Yield.accepted p e) a ≡ true → FirstShown (is_proposing_rule e a) (Proposes e a) p maker site
   by_rule k =
       let d = (proposals_derived p.rules (all_events e.events) e.readings a small).0 (accepted_within p e a k) in
-      let m : Contains (lines_of_both newest_form maker site) (rule d.rule) = rule_line (lines_of_both newest_form maker site) d.rule (rw b.rules d.listed) in
+      let m : Contains (lines_of_both newest_form maker site) (rule d.rule) = listed_line (lines_of_both newest_form maker site) (rule d.rule) (rw b.rules d.listed) in
       let alone : Derives (d.rule ∷ []) (all_events e.events) e.readings (Effect.Causes a) = record { rule = d.rule; listed = contains_first d.rule []; effect = d.effect; event = d.event; condition = d.condition } in
       let means = proposed_means e a small in
       first_line (is_proposing_rule e a) (Proposes e a) means maker site p b (rule d.rule) m ((means (rule d.rule)).1 alone)
@@ -141,7 +141,7 @@ module _ (maker site : List ℕ) (p : Policy) (e : Epoch) (a : Action) (small : 
   by_constraint : has_action (Yield.cancelled p e) a ≡ true → FirstShown (is_cancelling_constraint e.readings (Yield.accepted p e) a) (Cancels e (Yield.accepted p e) a) p maker site
   by_constraint k =
       let v = cancelled_trial p e a k in
-      let m : Contains (lines_of_both newest_form maker site) (constraint v.constraint) = constraint_line (lines_of_both newest_form maker site) v.constraint (rw b.constraints v.listed) in
+      let m : Contains (lines_of_both newest_form maker site) (constraint v.constraint) = listed_line (lines_of_both newest_form maker site) (constraint v.constraint) (rw b.constraints v.listed) in
       let means = cancelled_means e (Yield.accepted p e) a in
       first_line (is_cancelling_constraint e.readings (Yield.accepted p e) a) (Cancels e (Yield.accepted p e) a) means maker site p b (constraint v.constraint) m
       ((means (constraint v.constraint)).1 v.holds)
@@ -231,8 +231,8 @@ outcome_told maker site pending line n why h form image c =
 
 no_part : (before part behind : List ℕ) → [] ≡ before ++ (part ++ behind) → part ≡ []
 no_part [] [] behind e = refl
-no_part [] (b ∷ part) behind e = absurd cc
-no_part (b ∷ before) part behind e = absurd cc
+no_part [] (b ∷ part) behind e = cc
+no_part (b ∷ before) part behind e = cc
 
 module _ (maker : List ℕ) (pending : EventSet) (line : List ℕ) (n : ℕ) where
   -- the answer, refused or not, is by what was read of the maker's text alone

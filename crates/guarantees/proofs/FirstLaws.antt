@@ -26,19 +26,16 @@ use Rattle.guarantees.specs.Explanations.{Listed, ended_length, Trimmed, FirstOf
 
 -- ---- the lines of a policy
 
-pub rule_line : (ls : List PolicyLine) (r : Rule) → Contains (rules_in ls) r → Contains ls (rule r)
-unfolding rules_in
-rule_line [] r m = absurd (omega (arith, m.1))
-rule_line (rule k ∷ ls) r m = grind (arith, contains_cases k (rules_in ls) r m, contains_first, contains_later, rule_line ls r)
-rule_line (constraint c ∷ ls) r m = contains_later (constraint c) ls (rule r) (rule_line ls r m)
+abbrev pub policy_in_lines : List PolicyLine → Policy
+policy_in_lines ls = record { rules = rules_in ls; constraints = constraints_in ls }
 
-pub constraint_line : (ls : List PolicyLine) (c : Constraint) → Contains (constraints_in ls) c → Contains ls (constraint c)
-unfolding constraints_in
-constraint_line [] c m = absurd (omega (arith, m.1))
-constraint_line (rule r ∷ ls) c m = contains_later (rule r) ls (constraint c) (constraint_line ls c m)
-constraint_line (constraint k ∷ ls) c m = grind (arith, contains_cases k (constraints_in ls) c m, contains_first, contains_later, constraint_line ls c)
+pub listed_line : (ls : List PolicyLine) (l : PolicyLine) → Listed (policy_in_lines ls) l → Contains ls l
+unfolding rules_in constraints_in
+listed_line [] (rule r) m = absurd (omega (arith, m.1))
+listed_line [] (constraint c) m = absurd (omega (arith, m.1))
+listed_line (k ∷ ls) l m = grind (arith, contains_cases, contains_first, contains_later, listed_line ls l)
 
-line_listed : (ls : List PolicyLine) (l : PolicyLine) → Contains ls l → Listed (record { rules = rules_in ls; constraints = constraints_in ls }) l
+line_listed : (ls : List PolicyLine) (l : PolicyLine) → Contains ls l → Listed (policy_in_lines ls) l
 unfolding rules_in constraints_in
 line_listed [] l m = absurd (omega (arith, m.1))
 line_listed (rule k ∷ ls) (rule r) m = grind (arith, contains_cases (rule k) ls (rule r) m, contains_first, contains_later, line_listed ls (rule r))
@@ -118,7 +115,7 @@ module _ (test : PolicyLine → Bool) where
 
   found : (lines : List (List ℕ)) (at : ℕ) (shown : Stretch) → first_from test at lines ≡ Some shown → Found at lines shown
   unfolding first_from or_later
-  found [] at shown e = absurd cc
+  found [] at shown e = cc
   found (line ∷ lines) at shown e = go (line_answer newest_form line) refl (found lines (at + length line + 1) shown) e
     where
       next : Option Stretch
@@ -126,7 +123,7 @@ module _ (test : PolicyLine → Bool) where
 
       go : (a : Result (Option PolicyLine) Fault) → line_answer newest_form line ≡ a → (next ≡ Some shown → Found (at + length line + 1) lines shown) → or_later test a at line next ≡ Some shown → Found at (line ∷ lines) shown
       go (Ok None) k rec h = found_later at line lines shown (λ l j t. cc) (rec h)
-      go (Err f) k rec h = absurd cc
+      go (Err f) k rec h = cc
       go (Ok (Some l)) k rec h = passing (test l) refl h
         where
           passing : (b : Bool) → test l ≡ b → cond b (Some (shown_at at line)) next ≡ Some shown → Found at (line ∷ lines) shown

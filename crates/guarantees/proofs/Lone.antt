@@ -1,6 +1,7 @@
 -- A constraint with one action and no comparison keeps that action out of every decision.
 use Rattle.std.proofs.Common.{ℕ, Bool, true, false, cond, List, Contains, ◌≡◌, refl, sym, ap, ◌∙◌, arith, Ok, Some}
-use Rattle.policy.proofs.ListLaws.{not_true_is, contains_one}
+use Rattle.std.proofs.lemmas.Bool.{false_from_ne_true}
+use Rattle.policy.proofs.ListLaws.{contains_one}
 use Rattle.policy.proofs.SetLaws.{has_empty}
 use Rattle.policy.specs.declared.epoch.Epoch.{Epoch}
 use Rattle.policy.specs.Fault.{refusal}
@@ -26,7 +27,7 @@ use Rattle.guarantees.specs.Machine.{next_epoch, yield_in, answer, step}
 module _ (p : Policy) (e : Epoch) (a : Action) (listed : Contains p.constraints (lone a)) where
   rejects : (s : ActionSet) → Satisfies p.constraints e.readings s → has_action s a ≡ false
   rejects s good =
-      not_true_is (has_action s a)
+      false_from_ne_true (has_action s a)
       (λ h. good (lone a) listed (record { members = λ b k. ap (has_action s) (sym (contains_one a b k)) ∙ h; condition = λ c k. absurd (omega (arith, k.1)) }))
 
   kept_out : (mode : Mode) → KeptOut p e a (yield_in mode p e)

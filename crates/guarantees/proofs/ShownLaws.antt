@@ -31,7 +31,7 @@ one_last c [] b e = cc
 one_last c (d ∷ rest) b e = absurd (no_last rest b cc)
 
 more_last : (c d : ℕ) (t rest : List ℕ) (b : ℕ) → ((rest : List ℕ) (b : ℕ) → d ∷ t ≡ rest ++ b ∷ [] → ¬ (b ≡ 32)) → c ∷ d ∷ t ≡ rest ++ b ∷ [] → ¬ (b ≡ 32)
-more_last c d t [] b h e = absurd cc
+more_last c d t [] b h e = cc
 more_last c d t (x ∷ rest) b h e = h rest b cc
 
 kept : (c : ℕ) (s t : List ℕ) → Ended s t → Ended (c ∷ s) (add_to_trimmed c t)
@@ -108,7 +108,7 @@ Cutting s = (line : List ℕ) (lines : List (List ℕ)) → pieces 10 s ≡ line
 
 cut : (s : List ℕ) → Cutting s
 unfolding pieces prepend
-cut [] line lines e = absurd cc
+cut [] line lines e = cc
 cut (b ∷ s) line lines e = go (eqb b 10) refl (pieces 10 s) refl (cut s) e
   where
     go : (x : Bool) → eqb b 10 ≡ x → (ls : List (List ℕ)) → pieces 10 s ≡ ls → Cutting s → cond x ([] ∷ ls) (prepend b ls) ≡ line ∷ lines → Cut (b ∷ s) line lines

@@ -1,7 +1,7 @@
 -- What a walker gives: over the words of valid lines these lines.
 use Rattle.std.proofs.Common.{ℕ, zero, suc, ◌+◌, ◌<◌, true, List, [], ◌∷◌, ◌++◌, ◌≡◌, refl, arith, length, take, drop, take_at, drop_at, drop-drop, length-append}
+use Rattle.std.proofs.lemmas.Bool.{and_parts}
 use Rattle.std.proofs.lemmas.List.{drop_min, take-map, take_min}
-use Rattle.policy.proofs.ListLaws.{and_out}
 use Rattle.policy.specs.Limits.{valid}
 use Rattle.policy.specs.Line.{PolicyLine}
 use Rattle.std.specs.List.{list_all}
@@ -45,7 +45,7 @@ standing_given form part ws at l s = line_given ws at l (drop (length (line_word
 pub lines_given : (ls : List PolicyLine) → list_all valid ls ≡ true → lines_behind 0 (lines_words ls) ≡ ls
 unfolding lines_words lines_behind
 lines_given [] v = refl
-lines_given (l ∷ ls) v = grind (arith, and_out, line_then, lines_given ls)
+lines_given (l ∷ ls) v = grind (arith, and_parts, line_then, lines_given ls)
 
 -- the same of words of the image
 pub lines_step : (rest : List (List ℕ)) → 0 < length rest → lines_behind 0 (words_in rest) ≡ line_from (words_in (take (told_length (words_in rest)) rest)) ∷ lines_behind 0 (drop (told_length (words_in rest)) (words_in rest))

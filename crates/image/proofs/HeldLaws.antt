@@ -1,6 +1,6 @@
 -- The lines of an image that is taken are those of the policy that it holds.
 use Rattle.std.proofs.Common.{ℕ, zero, suc, ◌+◌, ◌<◌, ◌≤◌, true, List, [], ◌∷◌, ◌++◌, map, ◌⊎◌, ◌≡◌, refl, ap, ◌∙◌, arith, length, take, drop, length-take, length-drop, Result, Ok, Err, Option, Some, None}
-use Rattle.policy.proofs.ListLaws.{and_in, and_out}
+use Rattle.std.proofs.lemmas.Bool.{and_from, and_parts}
 use Rattle.policy.specs.Limits.{allowed}
 use Rattle.policy.specs.Line.{PolicyLine, rule, constraint, part_get}
 use Rattle.std.specs.List.{list_all}
@@ -39,13 +39,13 @@ are_none form part room ls e = rw e (record { kind = refl; sound = refl; few = o
 pub lines_written : (form : ℕ) (part : Part) (room at : ℕ) (ws : List ℕ) (ls : List PolicyLine) → lines_from form part room at ws ≡ Ok ls → AreLines form part room ws ls
 unfolding lines_from lines_words
 lines_written form part zero at [] ls e = are_none form part zero ls cc
-lines_written form part zero at (w ∷ ws) ls e = absurd cc
+lines_written form part zero at (w ∷ ws) ls e = cc
 lines_written form part (suc room) at [] ls e = are_none form part (suc room) ls cc
 lines_written form part (suc room) at (w ∷ ws) ls e =
     let h = after_ok at (line_at form part (w ∷ ws)) (λ (l : PolicyLine). lines_from form part room (at + length (line_words l)) (drop (length (line_words l)) (w ∷ ws))) ls e in
     let s = line_out form part (w ∷ ws) h.0 h.2 in
     let r = lines_written form part room (at + length (line_words h.0)) (drop (length (line_words h.0)) (w ∷ ws)) h.1 h.3 in
-    rw h.4 (record { kind = and_in s.kind r.kind; sound = and_in s.sound r.sound; few = omega (arith, r.few); words = s.words ∙ ap (λ (x : List ℕ). line_words h.0 ++ x) r.words })
+    rw h.4 (record { kind = and_from _ _ s.kind r.kind; sound = and_from _ _ s.sound r.sound; few = omega (arith, r.few); words = s.words ∙ ap (λ (x : List ℕ). line_words h.0 ++ x) r.words })
 
 -- what was counted to its end is whole lines
 pub part_ok : (n m : ℕ) (x : Result (List PolicyLine) ℕ) → part_answer n x ≡ Ok m → (ls : List PolicyLine) × (x ≡ Ok ls) × (m ≡ n + length ls)
@@ -60,13 +60,13 @@ counted_whole form part room at ws n e = let p = part_ok 0 n _ e in are_whole fo
 pub rules_there : (form : ℕ) (ls : List PolicyLine) → list_all (in_part form Part.Rules) ls ≡ true → map rule (rules_in ls) ≡ ls
 unfolding rules_in in_part
 rules_there form [] k = refl
-rules_there form (rule r ∷ ls) k = ap (λ (xs : List PolicyLine). rule r ∷ xs) (rules_there form ls (and_out (allowed form (rule r)) (list_all (in_part form Part.Rules) ls) k).1)
-rules_there form (constraint c ∷ ls) k = absurd cc
+rules_there form (rule r ∷ ls) k = ap (λ (xs : List PolicyLine). rule r ∷ xs) (rules_there form ls (and_parts (allowed form (rule r)) (list_all (in_part form Part.Rules) ls) k).1)
+rules_there form (constraint c ∷ ls) k = cc
 
 pub constraints_there : (form : ℕ) (ls : List PolicyLine) → list_all (in_part form Part.Constraints) ls ≡ true → map constraint (constraints_in ls) ≡ ls
 unfolding constraints_in in_part
 constraints_there form [] k = refl
-constraints_there form (rule r ∷ ls) k = absurd cc
+constraints_there form (rule r ∷ ls) k = cc
 constraints_there form (constraint c ∷ ls) k = ap (λ (xs : List PolicyLine). constraint c ∷ xs) (constraints_there form ls k)
 
 -- ---- what is taken

@@ -1,6 +1,6 @@
 -- The words of lines that an accepted text may have are whole lines.
 use Rattle.std.proofs.Common.{ℕ, suc, ◌+◌, ◌-◌, ◌<◌, ◌≤◌, true, List, [], ◌∷◌, ◌++◌, append_assoc, append-nil, ◌≡◌, refl, arith, ltb-true, get_or, length, length-append}
-use Rattle.policy.proofs.ListLaws.{and_in, and_out}
+use Rattle.std.proofs.lemmas.Bool.{and_from, and_parts}
 use Rattle.policy.proofs.ValidLaws.{valid_out, test_in_range}
 use Rattle.policy.specs.Limits.{valid, trigger_form, ending_allowed, comparison_in_range, ending_in_range}
 use Rattle.policy.specs.Line.{PolicyLine, heads_of, comparisons_of, ending_of, line_part}
@@ -17,9 +17,8 @@ use Rattle.operation.specs.Said.{constants_of}
 use Rattle.operation.specs.Whole.{ends, ends_line, whole_from, whole_lines}
 use Rattle.operation.specs.declared.said.LinePart.{LinePart}
 use Rattle.layout.specs.Layout.{condition_words, part_words, line_words, lines_words}
-use Rattle.layout.proofs.LayoutLaws.{part_length, condition_size_limit}
+use Rattle.layout.proofs.LayoutLaws.{part_length, condition_size_limit, tail_small}
 use Rattle.decode.proofs.ScanLaws.{kind_ends}
-use Rattle.decode.proofs.PartLaws.{tail_small}
 use Rattle.decode.proofs.FoundLaws.{line_some}
 use Rattle.decode.specs.Stands.{in_part, AreLines}
 
@@ -34,7 +33,7 @@ module _ (part : Part) (e : Ending) (kind : ends part e ≡ true) (sound : endin
   condition_whole [] r l = end_whole part (ending_word e) rest (LinePart.Ending e) (ending_said e (get_or rest 0 0) sound) kind refl (ending_skip e sound) behind
   condition_whole (c ∷ cs) r l =
       let tail : List ℕ = condition_words cs e in
-      let p = and_out (comparison_in_range c) (list_all comparison_in_range cs) r in
+      let p = and_parts (comparison_in_range c) (list_all comparison_in_range cs) r in
       let size = tail_small cs e (omega arith) in
       rw (length-append (comparison_words c (length tail)) tail, append_assoc (comparison_words c (length tail)) tail rest)
       (comparison_whole c tail (written c (length tail) p.0 (omega arith)) size.0 (condition_whole cs p.1 (omega arith)))
@@ -43,14 +42,14 @@ module _ (part : Part) (e : Ending) (kind : ends part e ≡ true) (sound : endin
       → whole_from part 0 (length (part_words ts cs e)) (part_words ts cs e ++ rest) ≡ true
   unfolding part_words ends_line constants_of
   part_whole cs r few [] t l = condition_whole cs r few
-  part_whole cs r few (x ∷ xs) t l = grind (arith, and_out, test_in_range, ltb-true, part_length, condition_size_limit, test_skip, test_whole, test_said, part_whole cs r few xs)
+  part_whole cs r few (x ∷ xs) t l = grind (arith, and_parts, test_in_range, ltb-true, part_length, condition_size_limit, test_skip, test_whole, test_said, part_whole cs r few xs)
 
 pub lines_whole : (form : ℕ) (part : Part) (ls : List PolicyLine) → list_all (in_part form part) ls ≡ true → list_all valid ls ≡ true → whole_lines part (lines_words ls) ≡ true
 unfolding lines_words line_words whole_from
 lines_whole form part [] k v = refl
 lines_whole form part (l ∷ ls) k v =
-    let p = and_out (in_part form part l) (list_all (in_part form part) ls) k in
-    let q = and_out (valid l) (list_all valid ls) v in
+    let p = and_parts (in_part form part l) (list_all (in_part form part) ls) k in
+    let q = and_parts (valid l) (list_all valid ls) v in
     let h = valid_out l q.0 in
     let one : suc (length (line_words l) - 1) ≡ length (line_words l) = omega (arith, line_some l) in
     whole_begins part (length (line_words l) - 1) (line_words l ++ lines_words ls)
@@ -66,4 +65,4 @@ own_part l = grind arith
 
 pub own_line_whole : (l : PolicyLine) → valid l ≡ true → whole_lines (line_part l) (line_words l) ≡ true
 unfolding lines_words
-own_line_whole l v = rw append-nil at (lines_whole trigger_form (line_part l) (l ∷ []) (own_part l) (and_in v refl))
+own_line_whole l v = rw append-nil at (lines_whole trigger_form (line_part l) (l ∷ []) (own_part l) (and_from _ _ v refl))

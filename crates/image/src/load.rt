@@ -40,7 +40,7 @@ fn well_sized(size: usize) -> bool
 
 // How many lines of a part the words are, at most `limit` of them; or the refusal where none fits, at an index in the image, in which
 // the first word has the index `first`.
-#[tactic(auto, using(crate::proofs::PartLaws::counted_all, crate::proofs::PartLaws::counted_full, crate::proofs::PartLaws::counted_fault, crate::proofs::PartLaws::counted_more, crate::proofs::PartLaws::line_inside, decode::proofs::LengthLaws::rest_between, word::proofs::ChunkLaws::words_in_length))]
+#[tactic(auto, using(crate::proofs::PartLaws::counted_all, crate::proofs::PartLaws::counted_full, crate::proofs::PartLaws::counted_fault, crate::proofs::PartLaws::counted_more, crate::proofs::PartLaws::line_inside, word::proofs::WordLaws::rest_between, word::proofs::ChunkLaws::words_in_length))]
 #[inline(always)]
 fn part_lines(
     words: &[[u8; 4]],

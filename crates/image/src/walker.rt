@@ -23,7 +23,7 @@ impl<'a> Walker<'a> {
     }
 
     // The words from here on.
-    #[tactic(auto, using(decode::proofs::LengthLaws::words_dropped, std::proofs::lemmas::List::take_rest))]
+    #[tactic(auto, using(word::proofs::ChunkLaws::words_dropped, std::proofs::lemmas::List::take_rest))]
     fn rest(self) -> &'a [[u8; 4]]
         ensures { words_in result.now ≡ drop self.entry.at (words_in self.entry.words.now) }
     {

@@ -1,5 +1,5 @@
 -- The answer for C, case by case: `x` is what the function below answered.
-use Rattle.std.proofs.Common.{ℕ, ◌≤◌, List, ◌≡◌, ap, ap₂, ◌∙◌, le-ltb, Ok, Err}
+use Rattle.std.proofs.Common.{ℕ, List, ◌≡◌, ap, ap₂, ◌∙◌, Ok, Err}
 use Rattle.policy.specs.Fault.{fault_number, source_number}
 use Rattle.policy.specs.Number.{check_action}
 use Rattle.policy.specs.Set.{EventSet}
@@ -8,9 +8,6 @@ use Rattle.explanation.proofs.WhyLaws.{same_action}
 use Rattle.explanation.specs.Why.{Explanation, explained}
 use Rattle.kinohazel_tools.specs.declared.ActionExplanation.{ActionExplanation}
 use Rattle.kinohazel_tools.specs.Export.{explanation_of}
-
-pub over_last : (n : ℕ) → 64 ≤ n → check_action 64 ≡ check_action n
-over_last n h = rw (le-ltb n 64 h)
 
 module _ (maker site : List ℕ) (pending : EventSet) (line : List ℕ) (number action : ℕ) (same : check_action number ≡ check_action action) where
   pub explain_refused : (r : Refusal) (k t : ℕ) → Err r ≡ explained maker site pending line number → k ≡ fault_number r.fault → t ≡ source_number r.source

@@ -128,3 +128,6 @@ module _ (line : PolicyLine) (constants : ℕ) (ek : constants ≡ constant_coun
       let n : length first ≡ length (heads_of line) = head_length (heads_of line) (length (heads_of line) + condition_size (comparisons_of line)) in
       let room = put_append buffer index first (condition_words (comparisons_of line) (ending_of line)) (omega (arith, n, condition_length (comparisons_of line) (ending_of line), rest_counted)) in
       rw (e₂, e₁, rest_counted, ← part_split (heads_of line) (comparisons_of line) (ending_of line)) (rw n at room)
+
+pub tail_small : (cs : List Comparison) (e : Ending) → length cs ≤ 4 → (0 < length (condition_words cs e)) × (length (condition_words cs e) < 24)
+tail_small cs e l = omega (arith, condition_length cs e, condition_size_limit cs)

@@ -1,8 +1,8 @@
 -- Laws of hexadecimal digits: the loop that reads them keeps the last eight, and they are bytes of a token.
 use Rattle.std.proofs.Common.{ℕ, zero, suc, ◌+◌, ◌*◌, ◌-◌, ◌%◌, ◌^◌, ◌<◌, ◌≤◌, true, List, [], ◌∷◌, ◌≡◌, mul-le-mul_left, mul-le-mul_right, arith, ltb-true, lt-ltb, length, take, drop, fold, get_or}
+use Rattle.std.proofs.lemmas.Bool.{and_parts}
 use Rattle.std.proofs.lemmas.List.{take_rest}
 use Rattle.std.proofs.Math.Nat.{pow-succ', one-le-pow}
-use Rattle.policy.proofs.ListLaws.{and_out}
 use Rattle.std.specs.List.{list_all}
 use Rattle.lexer.specs.Byte.{hex_value, is_hex_digit}
 use Rattle.lexer.specs.Number.{hex_number}
@@ -29,7 +29,7 @@ hex_below : (k v : ℕ) (ds : List ℕ) → list_all is_hex_digit ds ≡ true �
 hex_below k v [] e h = let l = one-le-pow k 16 (omega arith) in omega (arith, mul-le-mul_left (v + 1) l)
 hex_below zero v (d ∷ ds) e h = absurd (omega arith)
 hex_below (suc k) v (d ∷ ds) e h =
-    let q = and_out (is_hex_digit d) (list_all is_hex_digit ds) e in
+    let q = and_parts (is_hex_digit d) (list_all is_hex_digit ds) e in
     let below = hex_below k (v * 16 + hex_value d) ds q.1 (omega arith) in
     let m : v * 16 + hex_value d + 1 ≤ (v + 1) * 16 = omega (arith, ltb-true (hex_value d) 16 q.0) in
     rw (pow-succ' 16 k) (omega (arith, mul-le-mul_right (16 ^ k) m))

@@ -21,7 +21,7 @@ keyword_whole text rest keyword (b ∷ left) l h e q = absurd (omega arith)
 
 -- ---- what was answered for a keyword
 
-same_bytes : (s t : List ℕ) → bytes_equal s t ≡ true → s ≡ t
+pub same_bytes : (s t : List ℕ) → bytes_equal s t ≡ true → s ≡ t
 unfolding bytes_equal
 same_bytes [] t e = grind arith
 same_bytes (x ∷ xs) [] e = cc

@@ -1,6 +1,5 @@
 -- The items of a list, one after another, and a line from its parts.
-use Rattle.std.proofs.Common.{arith}
-use Rattle.std.proofs.Common.{true, List, [], ◌∷◌, map, ◌≡◌, refl}
+use Rattle.std.proofs.Common.{arith, true, List, [], ◌∷◌, map, ◌≡◌, refl}
 use Rattle.policy.specs.Line.{PolicyLine, rule, constraint, heads_of, comparisons_of, ending_of, ending_part, line_part}
 use Rattle.std.specs.List.{list_all}
 use Rattle.policy.specs.declared.comparison.Comparison.{Comparison}

@@ -1,7 +1,7 @@
 -- How many words of a taken image its parts fetch at the most: each part ends with the ending of a line, which has no constant.
 use Rattle.std.proofs.Common.{ℕ, ◌≤◌, true, List, [], ◌∷◌, ◌++◌, map, ◌≡◌, refl, ap, ◌∙◌, arith, length, length-append, Ok}
+use Rattle.std.proofs.lemmas.Bool.{and_parts}
 use Rattle.policy.specs.Set.{ActionSet}
-use Rattle.policy.proofs.ListLaws.{and_out}
 use Rattle.policy.proofs.ValidLaws.{valid_out}
 use Rattle.policy.specs.declared.epoch.Readings.{Readings}
 use Rattle.policy.specs.Limits.{valid, ending_in_range}
@@ -55,7 +55,7 @@ lines_last : (ls : List PolicyLine) → list_all valid ls ≡ true → last_cons
 unfolding lines_words line_words
 lines_last [] v = refl
 lines_last (l ∷ ls) v =
-    let p = and_out (valid l) (list_all valid ls) v in
+    let p = and_parts (valid l) (list_all valid ls) v in
     last_both (line_words l) (lines_words ls) (part_last (ending_of l) (valid_out l p.0).ending (heads_of l) (comparisons_of l)) (lines_last ls p.1)
 
 -- ---- the parts of a taken image

@@ -1,8 +1,8 @@
 -- What the words of a policy do when they are run is what the policy yields.
 use Rattle.std.proofs.Common.{add_comm, add-one, zero-add, ℕ, ◌+◌, ◌<◌, Bool, true, false, cond, ◌&&◌, ◌||◌, List, [], ◌∷◌, ◌++◌, map, append_assoc, ◌≡◌, refl, sym, ap, ap₂, ◌∙◌, arith, ltb-true, length, drop_at, fold, get_or}
+use Rattle.std.proofs.lemmas.Bool.{and_parts}
 use Rattle.std.proofs.Math.Bool.{and_assoc}
 use Rattle.std.proofs.Math.ListN.{length-map}
-use Rattle.policy.proofs.ListLaws.{and_out}
 use Rattle.policy.specs.Comparison.{comparison_holds}
 use Rattle.policy.specs.declared.epoch.Readings.{Readings}
 use Rattle.policy.specs.Limits.{valid, test_number, comparison_in_range, ending_in_range}
@@ -75,7 +75,7 @@ module _ {A : Type 0} (test : LinePart → Bool) (together : List LinePart → A
       ∙ ap (λ (b : Bool). together (LinePart.Ending ending ∷ ran test (passes b (LinePart.Ending ending) (ending_word ending)) rest)) untested ∙ ends _
   condition_run (c ∷ cs) rest r l =
       let tail : List ℕ = condition_words cs ending in
-      let p = and_out (comparison_in_range c) (list_all comparison_in_range cs) r in
+      let p = and_parts (comparison_in_range c) (list_all comparison_in_range cs) r in
       let small : length tail < 32 = omega (arith, condition_length cs ending) in
       ap (run 0) (append_assoc (comparison_words c (length tail)) tail rest)
       ∙ comparison_run c (length tail) (tail ++ rest) (written c (length tail) p.0 small)
@@ -89,7 +89,7 @@ module _ {A : Type 0} (test : LinePart → Bool) (together : List LinePart → A
     heads_run (x ∷ xs) rest t r l =
         let tail : List ℕ = part_words (map wrap xs) cs ending in
         let w : ℕ = test_word (wrap x) (length tail) in
-        let p = and_out (test_in_range (wrap x)) (list_all test_in_range (map wrap xs)) t in
+        let p = and_parts (test_in_range (wrap x)) (list_all test_in_range (map wrap xs)) t in
         let n : test_number (wrap x) < 64 = ltb-true (test_number (wrap x)) 64 p.0 in
         let k : length tail < 32 = omega (arith, part_length (map wrap xs) cs ending, length-map xs wrap) in
         ap together (ran_by w (tail ++ rest) (LinePart.Head (wrap x)) (test_said (wrap x) (length tail) (get_or (tail ++ rest) 0 0) n k)) ∙ head (wrap x) _
@@ -123,7 +123,7 @@ module _ (test : LinePart → Bool) (untested : (e : Ending) → test (LinePart.
   unfolding lines_words ran
   rules_run_from [] s v = refl
   rules_run_from (r ∷ rest) s v =
-      let p = and_out (valid (rule r)) (list_all valid (map rule rest)) v in
+      let p = and_parts (valid (rule r)) (list_all valid (map rule rest)) v in
       rule_run s r (lines_words (map rule rest)) p.0 ∙ rules_run_from rest (take_effect holds s r) p.1
 
 -- running a policy's rule words yields the effects of its rules, on any events and readings
@@ -163,7 +163,7 @@ module _ (rs : Readings) (s : ActionSet) where
   unfolding lines_words ran
   constraints_run_all [] v = refl
   constraints_run_all (c ∷ cs) v =
-      let p = and_out (valid (constraint c)) (list_all valid (map constraint cs)) v in
+      let p = and_parts (valid (constraint c)) (list_all valid (map constraint cs)) v in
       constraint_run c (lines_words (map constraint cs)) p.0 ∙ ap (λ (b : Bool). constraint_holds rs s c || b) (constraints_run_all cs p.1)
 
 -- running a policy's constraint words on a set of actions says whether some constraint holds on it

@@ -4,8 +4,7 @@ use Rattle.std.specs.Int.{trailing_zeros}
 use Rattle.pdl.proofs.CostLaws.{cost_below_limit}
 use Rattle.pdl.specs.Greedy.{try_next, kept_below, greedy, cost_below, trials_cost}
 use Rattle.policy.specs.Set.{has, insert}
-use Rattle.policy.proofs.SetLaws.{has_limit}
-use Rattle.run.proofs.StandLaws.{others_next, none_left, first_there, none_before}
+use Rattle.policy.proofs.SetLaws.{has_limit, others_next, none_left, first_there, none_before}
 
 module _ (bad : ℕ → Bool) (cost : ℕ → ℕ) (candidates : ℕ) where
   -- the candidates under n were tried, at the cost `spent`, and `left` are the others, with n as bit 0

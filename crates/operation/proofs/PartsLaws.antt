@@ -1,8 +1,8 @@
 -- The words of the parts of a line, read back: what each word's fields say is the part that it was written from.
 use Rattle.std.proofs.Common.{ℕ, ◌%◌, ◌^◌, ◌<◌, true, [], ◌∷◌, ◌≡◌, refl, arith, ltb-true, lt-ltb, to_z-of_z, w32, SFits, of_z}
+use Rattle.std.proofs.lemmas.Bool.{and_from}
 use Rattle.std.proofs.Math.Facts.{of_z-to_z, Fits-of_z}
 use Rattle.policy.proofs.ConstantLaws.{reading_value_is, reading_limit_is}
-use Rattle.policy.proofs.ListLaws.{and_in}
 use Rattle.policy.specs.Effect.{effect_number}
 use Rattle.policy.specs.Limits.{test_number, operand_in_range, comparison_in_range, effect_in_range, ending_in_range}
 use Rattle.policy.specs.declared.comparison.Comparison.{Comparison}
@@ -111,7 +111,7 @@ test_again t w k h e p q = rw q (head_again (test_operation t) w (test_known t) 
 
 pub constant_in_range : (w v k : ℕ) → Compares Operation.AgainstConstant w k → v < word_limit → comparison_in_range (constant_comparison w v) ≡ true
 unfolding comparison_in_range operand_in_range constant_comparison
-constant_in_range w v k h l = and_in (lt-ltb (first_of w) 16 h.first) (reading_limit_is v l)
+constant_in_range w v k h l = and_from _ _ (lt-ltb (first_of w) 16 h.first) (reading_limit_is v l)
 
 pub constant_again : (w v k : ℕ) → Compares Operation.AgainstConstant w k → second_of w ≡ 0 → v < word_limit → comparison_words (constant_comparison w v) k ≡ w ∷ v ∷ []
 unfolding comparison_words comparison_word operand_word constant_words constant_comparison
@@ -119,7 +119,7 @@ constant_again w v k h z l = grind (arith, comparison_again, relation_there, of_
 
 pub reading_in_range : (w k : ℕ) → Compares Operation.AgainstReading w k → second_of w < 16 → comparison_in_range (reading_comparison w) ≡ true
 unfolding comparison_in_range operand_in_range reading_comparison
-reading_in_range w k h l = and_in (lt-ltb (first_of w) 16 h.first) (lt-ltb (second_of w) 16 l)
+reading_in_range w k h l = and_from _ _ (lt-ltb (first_of w) 16 h.first) (lt-ltb (second_of w) 16 l)
 
 pub reading_again : (w k : ℕ) → Compares Operation.AgainstReading w k → comparison_words (reading_comparison w) k ≡ w ∷ []
 unfolding comparison_words comparison_word operand_word constant_words reading_comparison

@@ -1,9 +1,8 @@
 -- The table of relations: what each says of two values, by which of them is less.
 use Rattle.std.proofs.Common.{ℕ, ◌/◌, ◌%◌, ◌^◌, ◌<◌, Bool, true, false, not, ◌&&◌, ◌≡◌, ap, ◌∙◌, arith, ℤ, nat_eq}
 use Rattle.std.proofs.lemmas.Bool.Decides.{nat_tests}
-use Rattle.std.proofs.lemmas.Bool.{agree_below, agree_below_at, true_from_ne_false}
+use Rattle.std.proofs.lemmas.Bool.{agree_below, agree_below_at, true_from_ne_false, and_from}
 use Rattle.std.specs.Int.Signed.{lt_z, le_z}
-use Rattle.policy.proofs.ListLaws.{and_in}
 use Rattle.policy.proofs.RelationLaws.{eq_z_true}
 use Rattle.policy.specs.Comparison.{eq_z, relation_holds}
 use Rattle.policy.specs.declared.comparison.Relation.{Relation}
@@ -19,7 +18,7 @@ one_less a b e = grind (arith, nat_tests)
 
 pub other_less : (a b : ℤ) → lt_z a b ≡ false → (a ≡ b → ⊥) → lt_z b a ≡ true
 unfolding eq_z
-other_less a b l n = true_from_ne_false (lt_z b a) (λ g. n (eq_z_true a b (and_in (le_is a b ∙ ap not g) (le_is b a ∙ ap not l))))
+other_less a b l n = true_from_ne_false (lt_z b a) (λ g. n (eq_z_true a b (and_from _ _ (le_is a b ∙ ap not g) (le_is b a ∙ ap not l))))
 
 -- ---- the table
 

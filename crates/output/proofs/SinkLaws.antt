@@ -1,7 +1,9 @@
 -- What the sinks are after some bytes.
 use Rattle.std.proofs.Common.{◌≡◌, ℕ, suc, ◌+◌, ◌-◌, ◌^◌, ◌≤◌, ◌<◌, List, [], ◌∷◌, ◌++◌, length, get_or, set, drop, ap, ◌∙◌, arith, length-set, drop-cons, drop_of_length-le}
+use Rattle.std.proofs.lemmas.Grind.{common_steps}
+use Rattle.std.proofs.lemmas.List.{take_rest}
 use Rattle.output.specs.Buffer.{appended, behind}
-use Rattle.output.specs.Sink.{fed, fed-join, advanced, counted, stored}
+use Rattle.output.specs.Sink.{fed, fed-join, advanced, counted, stored, fed-none}
 use Rattle.output.specs.declared.counter.Counter.{Counter}
 use Rattle.output.specs.declared.page.Page.{Page}
 use Rattle.output.proofs.AppendLaws.{Put, append_out}
@@ -62,3 +64,6 @@ page_end page bytes out end i h holds reached = grind (arith, append-end, drop_o
 pub fed_then : {S : Type 0} (taken : S → ℕ → S) (sink : S) {between after : S} (first second : List ℕ)
     → between ≡ fed taken sink first → after ≡ fed taken between second → after ≡ fed taken sink (first ++ second)
 fed_then taken sink first second e f = f ∙ ap (λ s. fed taken s second) e ∙ fed-join taken sink first second
+
+-- what is put one after another, an element of a list at a time
+pub ruleset put_laws = (common_steps, take_rest, fed-none, fed-join)

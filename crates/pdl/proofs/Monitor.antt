@@ -1,7 +1,8 @@
 -- The accepted and the cancelled actions of an epoch: a maximal action cancellation of what the rules propose, lower numbers kept
 -- first (Definitions 11.1 to 11.3 of Chomicki, Lobo and Naqvi, "Conflict Resolution Using Logic Programming", TKDE 2003).
 use Rattle.std.proofs.Common.{◌∷◌, arith, true, false, not, ◌&&◌, List, [], Contains, ◌≡◌, sym, arith}
-use Rattle.policy.proofs.ListLaws.{not_true_is, not_false_is, contains_one}
+use Rattle.std.proofs.lemmas.Bool.{false_from_ne_true, true_from_ne_false}
+use Rattle.policy.proofs.ListLaws.{contains_one}
 use Rattle.pdl.proofs.Others.{has_others, others_apart, with_others, no_others}
 use Rattle.pdl.proofs.Proposals.{proposals_limit}
 use Rattle.pdl.proofs.Resolution.{satisfied, conflict_out, resolve_within, resolve_satisfies, resolve_maximal, resolve_dropped, resolve_kept, resolve_limit}
@@ -51,7 +52,7 @@ module _ (p : Policy) where
   pub giving_back_violates : (e : Epoch) (u : ActionSet) → accepted p e ⊆ u → u ⊆ proposed p.rules e → ¬ (u ≡ accepted p e) → Violated p.constraints e.readings u
   giving_back_violates e u h k other =
       conflict_out p.constraints e.readings u
-      (not_false_is (conflict p.constraints e.readings u) (λ q. other (maximal e u h k (satisfied p.constraints e.readings u q))))
+      (true_from_ne_false (conflict p.constraints e.readings u) (λ q. other (maximal e u h k (satisfied p.constraints e.readings u q))))
 
   pub maximal_cancellation : NameActions p.constraints → MaximalActionCancellation p.constraints (proposed p.rules) (accepted p)
   maximal_cancellation named e = record { within = accepted_within e; satisfies = accepted_satisfies named e; maximal = maximal e }
@@ -81,7 +82,7 @@ module _ (p : Policy) where
     one_rejected : has_action (accepted p e) a ≡ false
     unfolding accepted
     one_rejected =
-        not_true_is (has_action (accepted p e) a)
+        false_from_ne_true (has_action (accepted p e) a)
         (λ h. resolve_kept p.constraints e.readings (proposed p.rules e) a h (of_one_action a cs) listed (record { members = tried h; condition = holds }))
 
     one_cancelled : has_action (proposed p.rules e) a ≡ true → has_action (cancelled p e) a ≡ true

@@ -1,6 +1,6 @@
 -- The proposed actions that are not issued.
 use Rattle.std.proofs.Common.{arith, true, false, not, ◌&&◌, ◌≡◌}
-use Rattle.policy.proofs.ListLaws.{and_out}
+use Rattle.std.proofs.lemmas.Bool.{and_parts}
 use Rattle.policy.proofs.SetLaws.{has_empty, has_union, has_difference}
 use Rattle.policy.specs.Set.{ActionSet, has_action, no_actions, union_actions, actions_without}
 use Rattle.policy.specs.declared.number.Action.{Action}
@@ -15,7 +15,7 @@ module _ (proposed issued : ActionSet) where
   has_others a = grind (arith, has_difference)
 
   pub others_apart : (a : Action) → has_action others a ≡ true → has_action issued a ≡ false
-  others_apart a h = grind (arith, and_out, has_others)
+  others_apart a h = grind (arith, and_parts, has_others)
 
   pub with_others : issued ⊆ proposed → union_actions issued others ≡ proposed
   with_others within = grind (arith, actions_ext, has_union, has_others)

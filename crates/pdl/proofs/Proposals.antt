@@ -1,6 +1,7 @@
 -- The proposed set, and in the same words what is triggered, is what Definition 6 of Chomicki, Lobo and Naqvi, "Conflict Resolution Using Logic Programming" (TKDE 2003), says.
 use Rattle.std.proofs.Common.{◌<◌, ◌^◌, Bool, true, false, List, [], ◌∷◌, Contains, ◌↔◌, ◌⊎◌, inl, ◌≡◌, refl, subst, lit<, fold, arith}
-use Rattle.policy.proofs.ListLaws.{and_in, and_out, contains_first, contains_later, all_in, all_out, contains_cases}
+use Rattle.std.proofs.lemmas.Bool.{and_from, and_parts}
+use Rattle.policy.proofs.ListLaws.{contains_first, contains_later, all_in, all_out, contains_cases}
 use Rattle.policy.proofs.EffectLaws.{effect_none, effect_new, effect_old, effect_cases, Small, small_with}
 use Rattle.policy.proofs.SetLaws.{has_limit}
 use Rattle.policy.proofs.MissingLaws.{missing_in_rule, fewer_in_rule}
@@ -30,13 +31,13 @@ literal_occurs ev l = grind arith
 
 pub rule_holds_is : (ev : Events) (rs : Readings) (r : Rule) → ((l : Literal) → Contains r.literals l → Occurs ev l) → Condition Part.Rules rs r.comparisons → rule_holds ev rs r ≡ true
 unfolding rule_holds
-rule_holds_is ev rs r occurs condition = grind (arith, and_in, all_in, literal_occurs)
+rule_holds_is ev rs r occurs condition = grind (arith, and_from, all_in, literal_occurs)
 
 -- a rule that holds derives its effect
 pub rule_derives : (rules : List Rule) (ev : Events) (rs : Readings) (r : Rule) → Contains rules r → rule_holds ev rs r ≡ true → Derives rules ev rs r.effect
 unfolding rule_holds
 rule_derives rules ev rs r m h =
-    let parts = and_out _ _ h in
+    let parts = and_parts _ _ h in
     let event = λ (l : Literal) (k : Contains r.literals l). (literal_occurs ev l).0 (all_out (literal_holds ev) r.literals parts.0 l k) in
     record { rule = r; listed = m; effect = refl; event = event; condition = all_out (comparison_holds Part.Rules rs) r.comparisons parts.1 }
 

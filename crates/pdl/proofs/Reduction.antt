@@ -2,7 +2,7 @@
 -- exactly where a constraint holds already with no event kept. Definitions below are those of Chomicki, Lobo and Naqvi, "Conflict
 -- Resolution Using Logic Programming" (TKDE 2003); a maximal reduction is that of Definition 10.
 use Rattle.std.proofs.Common.{ℕ, Bool, true, false, ◌↔◌, ◌≡◌, refl, sym, ap, arith}
-use Rattle.policy.proofs.ListLaws.{true_false, not_true_is, not_false_is}
+use Rattle.std.proofs.lemmas.Bool.{false_from_ne_true, true_from_ne_false, both_ways}
 use Rattle.policy.proofs.SetLaws.{has_empty, has_limit}
 use Rattle.policy.specs.Epoch.{InAlphabet}
 use Rattle.policy.specs.declared.epoch.Epoch.{Epoch}
@@ -40,12 +40,12 @@ module _ (p : Policy) (e : Epoch) where
   pub unavoidable_exactly : (unavoidable p e ≡ true) ↔ ¬ Reducible p.constraints (proposed_with p.rules) e
   unfolding unavoidable clashes
   unavoidable_exactly = (
-    (λ h r. true_false (bad_monotone 0 r.kept.bits (λ n. none_within r.kept (record { 0 = n })) h) (no_conflict _ _ _ r.reduction.consistent)),
-    λ h. not_false_is (clashes p e no_events) (λ q. h (record { kept = no_events; reduction = record { within = none_within e.events; consistent = satisfied _ _ _ q } })),
+    (λ h r. both_ways _ (no_conflict _ _ _ r.reduction.consistent) (bad_monotone 0 r.kept.bits (λ n. none_within r.kept (record { 0 = n })) h)),
+    λ h. true_from_ne_false (clashes p e no_events) (λ q. h (record { kept = no_events; reduction = record { within = none_within e.events; consistent = satisfied _ _ _ q } })),
   )
 
   pub reducible_avoids : Reducible p.constraints (proposed_with p.rules) e → unavoidable p e ≡ false
-  reducible_avoids r = not_true_is (unavoidable p e) (λ h. unavoidable_exactly.0 h r)
+  reducible_avoids r = false_from_ne_true (unavoidable p e) (λ h. unavoidable_exactly.0 h r)
 
   -- ---- what is kept
 
@@ -95,7 +95,7 @@ module _ (p : Policy) (e : Epoch) where
     pub giving_back_clashes : (u : EventSet) → kept_events p e ⊑ u → u ⊑ e.events → ¬ (u ≡ kept_events p e)
         → Violated p.constraints e.readings (proposed_with p.rules e u)
     unfolding clashes
-    giving_back_clashes u h k other = conflict_out p.constraints e.readings (proposed_with p.rules e u) (not_false_is (clashes p e u) (λ q. other (maximal u h k q)))
+    giving_back_clashes u h k other = conflict_out p.constraints e.readings (proposed_with p.rules e u) (true_from_ne_false (clashes p e u) (λ q. other (maximal u h k q)))
 
     -- an event is dropped only for its own trial: on what the lower kept ones propose together with it some constraint holds
     pub dropped_trial : (x : Event) → has_event e.events x ≡ true → has_event (kept_events p e) x ≡ false

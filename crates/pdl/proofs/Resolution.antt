@@ -1,7 +1,8 @@
 -- Laws of resolving: when a set of actions has a conflict, and what is kept of it.
 use Rattle.std.proofs.Common.{arith, ap, ℕ, ◌^◌, ◌<◌, Bool, true, false, List, [], ◌∷◌, Contains, ◌≡◌, refl}
+use Rattle.std.proofs.lemmas.Bool.{false_from_ne_true, and_from, and_parts}
 use Rattle.pdl.proofs.GreedyLaws.{Monotone, greedy_kept, greedy_dropped, greedy_within, greedy_good, greedy_maximal, greedy_limit}
-use Rattle.policy.proofs.ListLaws.{not_true_is, and_in, and_out, contains_first, all_in, all_out, any_in, any_out}
+use Rattle.policy.proofs.ListLaws.{contains_first, all_in, all_out, any_in, any_out}
 use Rattle.policy.proofs.MissingLaws.{fewer_in_constraint}
 use Rattle.policy.proofs.SetLaws.{has_empty, has_limit, set_ext}
 use Rattle.policy.specs.Comparison.{comparison_holds}
@@ -25,12 +26,12 @@ actions_ext s t h = ap set_of (set_ext s.bits t.bits (λ n. h (record { 0 = n })
 
 pub holds_in : (rs : Readings) (s : ActionSet) (c : Constraint) → HoldsOn rs s c → constraint_holds rs s c ≡ true
 unfolding constraint_holds
-holds_in rs s c h = and_in (all_in (has_action s) c.actions h.members) (all_in (comparison_holds Part.Constraints rs) c.comparisons h.condition)
+holds_in rs s c h = and_from _ _ (all_in (has_action s) c.actions h.members) (all_in (comparison_holds Part.Constraints rs) c.comparisons h.condition)
 
 pub holds_out : (rs : Readings) (s : ActionSet) (c : Constraint) → constraint_holds rs s c ≡ true → HoldsOn rs s c
 unfolding constraint_holds
 holds_out rs s c h =
-    let parts = and_out (list_all (has_action s) c.actions) (list_all (comparison_holds Part.Constraints rs) c.comparisons) h in
+    let parts = and_parts (list_all (has_action s) c.actions) (list_all (comparison_holds Part.Constraints rs) c.comparisons) h in
     record { members = all_out (has_action s) c.actions parts.0; condition = all_out (comparison_holds Part.Constraints rs) c.comparisons parts.1 }
 
 module _ (constraints : List Constraint) (rs : Readings) where
@@ -46,7 +47,7 @@ module _ (constraints : List Constraint) (rs : Readings) where
   satisfied s h c m k = grind (arith, conflict_in)
 
   pub no_conflict : (s : ActionSet) → Satisfies constraints rs s → conflict constraints rs s ≡ false
-  no_conflict s h = not_true_is (conflict constraints rs s) (λ e. let v = conflict_out s e in h v.constraint v.listed v.holds)
+  no_conflict s h = false_from_ne_true (conflict constraints rs s) (λ e. let v = conflict_out s e in h v.constraint v.listed v.holds)
 
   abbrev pub bad : ℕ → Bool
   bad kept = conflict constraints rs (set_of kept)

@@ -1,5 +1,5 @@
 -- Each fault has a number of its own.
-use Rattle.std.proofs.Common.{ℕ, ◌<◌, List, [], ◌∷◌, length, ◌≡◌, arith}
+use Rattle.std.proofs.Common.{◌<◌, List, [], ◌∷◌, length, ◌≡◌, arith}
 use Rattle.policy.specs.Fault.{fault_number}
 use Rattle.policy.specs.declared.fault.Fault.{Fault}
 use Rattle.policy.specs.declared.fault.Fault.TheVariants.{TooLong, Syntax, OutOfRange, TooManyParts, TooManyLines, Duplicate, ImageSize, ImageForm, ImageCount, ImageSum, ImageBody, EpochSyntax, EpochRange, DuplicateReading, BufferTooSmall, ImageWeightedSum, Unavoidable, ReservedEvent}
@@ -14,7 +14,7 @@ pub fault_number_distinct : (f g : Fault) → fault_number f ≡ fault_number g 
 fault_number_distinct f g h = grind arith
 
 -- it is not 0, by which an answer without a fault is told
-pub fault_number_positive : (f : Fault) → fault_number f ≡ 0 → ◌≡◌ {A = ℕ} 1 0
+pub fault_number_positive : (f : Fault) → fault_number f ≡ 0 → ⊥
 fault_number_positive f h = grind arith
 
 -- and each is under how many there are by number

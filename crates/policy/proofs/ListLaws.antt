@@ -1,30 +1,9 @@
 -- Tests as facts: what it says that a test of Bools, or of a whole list, holds.
-use Rattle.std.proofs.Common.{Bool, true, false, ◌&&◌, ◌||◌, List, [], ◌∷◌, ◌++◌, Contains, ◌≡◌, refl, ◌⊎◌, arith}
+use Rattle.std.proofs.Common.{Bool, true, List, [], ◌∷◌, Contains, ◌≡◌, refl, ◌⊎◌, arith}
+use Rattle.std.proofs.lemmas.Bool.{and_from}
 use Rattle.std.proofs.lemmas.List.Elements.{Contains-append_right}
 use Rattle.std.proofs.lemmas.List.Folds.{Any-from_list_any, list_all_at, list_any_at}
 use Rattle.std.specs.List.{list_all, list_any}
-
-pub true_false : {b : Bool} → b ≡ true → b ≡ false → ⊥
-true_false h k = grind arith
-
-pub not_true_is : (b : Bool) → (b ≡ true → ⊥) → b ≡ false
-not_true_is b h = grind arith
-
-pub not_false_is : (b : Bool) → (b ≡ false → ⊥) → b ≡ true
-not_false_is b h = grind arith
-
-pub and_in : {a b : Bool} → a ≡ true → b ≡ true → a && b ≡ true
-and_in h k = grind arith
-
-pub and_out : (a b : Bool) → a && b ≡ true → (a ≡ true) × (b ≡ true)
-and_out a b h = grind arith
-
--- two Bools are equal where each follows from the other
-pub or_out : (a b : Bool) → a || b ≡ false → (a ≡ false) × (b ≡ false)
-or_out a b h = grind arith
-
-pub bool_ext : (a b : Bool) → (a ≡ true → b ≡ true) → (b ≡ true → a ≡ true) → a ≡ b
-bool_ext a b h k = grind arith
 
 module _ {A : Type 0} where
   -- an element is the first or one of the others
@@ -43,14 +22,10 @@ module _ {A : Type 0} where
 module _ {A : Type 0} (p : A → Bool) where
   pub all_in : (xs : List A) → ((x : A) → Contains xs x → p x ≡ true) → list_all p xs ≡ true
   all_in [] h = refl
-  all_in (x ∷ xs) h = and_in (h x (contains_first x xs)) (all_in xs (λ y m. h y (contains_later x xs y m)))
+  all_in (x ∷ xs) h = and_from _ _ (h x (contains_first x xs)) (all_in xs (λ y m. h y (contains_later x xs y m)))
 
   pub all_out : (xs : List A) → list_all p xs ≡ true → (x : A) → Contains xs x → p x ≡ true
   all_out xs e x m = grind (arith, list_all_at)
-
-  pub all_append : (xs ys : List A) → list_all p xs ≡ true → list_all p ys ≡ true → list_all p (xs ++ ys) ≡ true
-  all_append [] ys e f = f
-  all_append (x ∷ xs) ys e f = grind (arith, all_append xs ys)
 
   pub any_in : (xs : List A) (x : A) → Contains xs x → p x ≡ true → list_any p xs ≡ true
   any_in xs x m h = grind (arith, list_any_at)

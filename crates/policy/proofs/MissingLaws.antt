@@ -1,6 +1,6 @@
 -- What a comparison counts as that names a missing reading; where none is missing, the values alone count.
 use Rattle.std.proofs.Common.{Bool, true, false, List, ◌⊎◌, ◌≡◌, ℤ, Option, Some, None, slice_get, arith}
-use Rattle.policy.proofs.ListLaws.{true_false, contains_cases, contains_one}
+use Rattle.policy.proofs.ListLaws.{contains_cases, contains_one}
 use Rattle.policy.specs.Comparison.{relation_holds, operand_readings, readings_of, NamesMissing, missing_holds, values_relate, operand_value, comparison_holds}
 use Rattle.policy.specs.Epoch.{reading_value, SomeOf}
 use Rattle.policy.specs.declared.epoch.Readings.{Readings}
@@ -72,7 +72,7 @@ module _ (fewer all : Readings) (some_of : SomeOf fewer all) where
   -- with fewer readings no more comparisons of rules hold, and no fewer of constraints
   pub fewer_in_rule : (c : Comparison) → comparison_holds Part.Rules fewer c ≡ true → comparison_holds Part.Rules all c ≡ true
   unfolding missing_holds
-  fewer_in_rule c h = grind (arith, true_false, fewer_counts)
+  fewer_in_rule c h = grind (arith, fewer_counts)
 
   pub fewer_in_constraint : (c : Comparison) → comparison_holds Part.Constraints all c ≡ true → comparison_holds Part.Constraints fewer c ≡ true
   unfolding missing_holds

@@ -1,10 +1,8 @@
 -- What it says that steps which may fail came to an answer.
-use Rattle.std.proofs.Common.{arith, Some, Result, Ok, Err}
+use Rattle.std.proofs.Common.{arith, Some, Result, Ok, Err, ◌⊎◌, ◌≡◌}
 use Rattle.std.specs.Result.{result_ok}
-use Rattle.std.proofs.Common.{ℕ, ◌⊎◌, ◌≡◌}
-use Rattle.policy.specs.Fault.{within, located, in_text}
+use Rattle.policy.specs.Fault.{within, in_text}
 use Rattle.policy.specs.Result.{result_and_then}
-use Rattle.policy.specs.declared.fault.Fault.{Fault}
 use Rattle.policy.specs.declared.fault.Refusal.{Refusal}
 use Rattle.policy.specs.declared.fault.Source.{Source}
 
@@ -16,9 +14,6 @@ module _ {A B E : Type 0} (next : A → Result B E) where
   and_then_err r f h = grind arith
 
 module _ {A : Type 0} where
-  pub located_ok : (at : ℕ) (r : Result A Fault) (x : A) → located at r ≡ Ok x → r ≡ Ok x
-  located_ok at r x h = grind arith
-
   pub in_text_ok : (source : Source) (r : Result A Refusal) (x : A) → in_text source r ≡ Ok x → r ≡ Ok x
   in_text_ok source r x h = grind arith
 

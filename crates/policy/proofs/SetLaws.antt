@@ -1,6 +1,7 @@
 -- Laws of sets: what is a member of each, and that two sets with the same members are equal.
-use Rattle.std.specs.Int.{trailing_zeros}
-use Rattle.std.proofs.Common.{ℕ, ◌+◌, ◌*◌, ◌/◌, ◌%◌, ◌^◌, ◌≤◌, ◌<◌, true, false, not, ◌&&◌, ◌||◌, ◌⊎◌, ◌≢◌, ◌≡◌, sym, mod-eq_of_lt, mod-lt, lt_of_lt_of_le, arith, w64, bit_and, bit_or, pow_pos, pow_mono, eqb}
+use Rattle.std.specs.Int.{trailing_zeros, bit_at}
+use Rattle.std.proofs.Common.{ℕ, ◌+◌, ◌*◌, ◌/◌, ◌%◌, ◌^◌, ◌≤◌, ◌<◌, true, false, not, ◌&&◌, ◌||◌, ◌⊎◌, ◌≢◌, ◌≡◌, sym, mod-eq_of_lt, mod-lt, lt_of_lt_of_le, arith, w64, bit_and, bit_or, pow_pos, pow_mono, eqb, ◌-◌, ◌∙◌, shr-shr, refl}
+use Rattle.std.proofs.Math.Nat.{div-eq_of_lt}
 use Rattle.std.proofs.lemmas.Nat.{and_le_r, or_lt}
 use Rattle.std.proofs.lemmas.Nat.Bits.{bit_at_and, bit_at_or, bit_at_xor, bit_at-pow_same, bit_at-pow_other, bit_at-lt, bit_at_above, bit_at_cat_low, bit_at-trailing_zeros, same_from_bits}
 use Rattle.std.proofs.lemmas.Bool.Decides.{nat_tests}
@@ -102,3 +103,26 @@ meets_out s t small m = grind (arith, and_le_r s t, lowest (bit_and s t), has_an
 
 pub meets_in : (s t n : ℕ) → has s n ≡ true → has t n ≡ true → not (eqb (bit_and s t) 0) ≡ true
 meets_in s t n h k = grind (arith, has_and s t n, has_empty n)
+
+-- ---- the members from a number on, by the bits that are left
+
+module _ (bits n left : ℕ) (others : left ≡ bits / 2 ^ n) where
+  pub others_next : (k : ℕ) → left / 2 ^ k ≡ bits / 2 ^ (n + k)
+  others_next k = rw others (shr-shr bits n k)
+
+  has_at : (i : ℕ) → n ≤ i → has bits i ≡ eqb (bit_at left (i - n)) 1
+  unfolding has
+  has_at i h = let same : n + (i - n) ≡ i = omega arith in cc (same, shr-shr bits n (i - n))
+
+  pub none_left : left ≡ 0 → (i : ℕ) → n ≤ i → has bits i ≡ false
+  none_left z i h = has_at i h ∙ rw (z, div-eq_of_lt (pow_pos (i - n))) refl
+
+  module _ (some : left ≢ 0) (small : left < 2 ^ 64) where
+    first_bit : (trailing_zeros w64 left < 64) × (bit_at left (trailing_zeros w64 left) ≡ 1) × ((i : ℕ) → i < trailing_zeros w64 left → bit_at left i ≡ 0)
+    first_bit = bit_at-trailing_zeros w64 left (omega (arith, some)) small
+
+    pub first_there : has bits (n + trailing_zeros w64 left) ≡ true
+    first_there = let same : n + trailing_zeros w64 left - n ≡ trailing_zeros w64 left = omega arith in has_at _ (omega arith) ∙ rw (same, first_bit.1) refl
+
+    pub none_before : (i : ℕ) → n ≤ i → i < n + trailing_zeros w64 left → has bits i ≡ false
+    none_before i h k = has_at i h ∙ rw (first_bit.2 (i - n) (omega arith)) refl

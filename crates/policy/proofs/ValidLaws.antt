@@ -1,6 +1,5 @@
 -- What it says that a line is one that an accepted text may have, as facts of its parts.
-use Rattle.std.proofs.Common.{arith, ltb}
-use Rattle.std.proofs.Common.{◌≤◌, ◌<◌, Bool, true, false, List, map, ◌≡◌, length}
+use Rattle.std.proofs.Common.{arith, ltb, ◌≤◌, ◌<◌, Bool, true, false, List, map, ◌≡◌, length}
 use Rattle.policy.specs.Limits.{valid, in_range, crowded, repeated, repeats, test_number, comparison_in_range, ending_in_range}
 use Rattle.policy.specs.Line.{PolicyLine, heads_of, comparisons_of, ending_of}
 use Rattle.std.specs.List.{list_all}

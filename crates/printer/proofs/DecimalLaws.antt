@@ -1,8 +1,9 @@
 -- Reading the decimal digits of a number back yields it.
-use Rattle.std.proofs.Common.{ℕ, zero, suc, ◌+◌, ◌*◌, ◌%◌, ◌<◌, true, false, List, [], ◌∷◌, ◌++◌, ◌≡◌, refl, sym, ap, ◌∙◌, arith, ne_eqb, ℤ, pos, fold, option_map, Some, None, eqb, get_or}
+use Rattle.std.proofs.Common.{ℕ, zero, suc, ◌+◌, ◌*◌, ◌%◌, ◌<◌, true, false, List, [], ◌∷◌, ◌++◌, ◌≡◌, refl, ap, ◌∙◌, arith, ℤ, pos, fold, option_map, Some, None, eqb, get_or}
+use Rattle.std.proofs.lemmas.Bool.{and_from}
+use Rattle.std.proofs.lemmas.List.Folds.{list_all-append}
 use Rattle.std.proofs.Math.Bool.{or-true}
 use Rattle.std.proofs.lemmas.Bool.Decides.{nat_tests}
-use Rattle.policy.proofs.ListLaws.{true_false, all_append}
 use Rattle.std.specs.List.{list_all}
 use Rattle.lexer.specs.Byte.{is_digit}
 use Rattle.lexer.specs.Token.{named}
@@ -24,7 +25,7 @@ one_digit n h = grind (arith, nat_tests)
 pub decimal_all : (n : ℕ) → list_all is_digit (decimal n) ≡ true
 decimal_all =
     decimal_by (λ n ds. list_all is_digit ds ≡ true) one_digit
-    (λ n h ds e. all_append is_digit ds (digit (n % 10) ∷ []) e (one_digit (n % 10) (omega arith)))
+    (λ n h ds e. list_all-append is_digit ds (digit (n % 10) ∷ []) ∙ and_from _ _ e (one_digit (n % 10) (omega arith)))
 
 pub decimal_some : (n : ℕ) → is_empty (decimal n) ≡ false
 decimal_some = decimal_by (λ n ds. is_empty ds ≡ false) (λ n h. refl) (λ n h ds e. go ds (digit (n % 10)))
@@ -48,7 +49,7 @@ number_read (suc m) = led_read (decimal (suc m)) (decimal_lead (suc m) (omega ar
 -- ---- digits are taken for nothing else
 
 pub digit_not : (d b : ℕ) → is_digit d ≡ true → is_digit b ≡ false → eqb d b ≡ false
-digit_not d b h k = ne_eqb d b (λ q. true_false (sym (ap is_digit q) ∙ h) k)
+digit_not d b h k = grind (arith, nat_tests)
 
 pub digits_unnamed : (letter : ℕ) (ds : List ℕ) → is_digit letter ≡ false → list_all is_digit ds ≡ true → named letter ds ≡ None
 unfolding named

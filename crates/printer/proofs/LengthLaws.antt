@@ -1,9 +1,9 @@
 -- Laws of lengths: the bytes of a valid line.
 use Rattle.std.proofs.Common.{ℕ, suc, ◌+◌, ◌*◌, ◌≤◌, ◌<◌, Bool, true, cond, List, [], ◌∷◌, ◌++◌, map, ◌≡◌, sym, ◌∙◌, arith, ℤ, pos, negsuc, length, length-append, leb}
+use Rattle.std.proofs.lemmas.Bool.{and_parts}
 use Rattle.std.proofs.Math.ListN.{length-map}
 use Rattle.std.proofs.lemmas.Bool.Decides.{nat_tests}
 use Rattle.std.proofs.lemmas.List.Folds.{list_all-map}
-use Rattle.policy.proofs.ListLaws.{and_out}
 use Rattle.policy.specs.Effect.{effect_number}
 use Rattle.policy.specs.Limits.{valid, allowed, trigger_form, is_reading_value, test_number, operand_in_range, comparison_in_range, effect_in_range, ending_in_range, ending_allowed}
 use Rattle.policy.specs.Line.{PolicyLine, rule, constraint, heads_of, comparisons_of, ending_of}
@@ -43,8 +43,8 @@ module _ {A : Type 0} (p : A → Bool) (f : A → List Token) (sep : Token) (w :
   joined_room : (xs : List A) → 0 < length xs → list_all p xs ≡ true → room (joined_by sep (map f xs)) + (length sep + 1) ≤ length xs * (w + (length sep + 1))
   unfolding joined_by room
   joined_room [] n h = absurd (omega arith)
-  joined_room (x ∷ []) n h = omega (arith, fits x (and_out (p x) true h).0)
-  joined_room (x ∷ y ∷ ys) n h = grind (arith, and_out, room_append, joined_room (y ∷ ys))
+  joined_room (x ∷ []) n h = omega (arith, fits x (and_parts (p x) true h).0)
+  joined_room (x ∷ y ∷ ys) n h = grind (arith, and_parts, room_append, joined_room (y ∷ ys))
 
 -- ---- the parts of a line
 

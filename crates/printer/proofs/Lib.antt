@@ -1,7 +1,6 @@
 pub mod DecimalLaws
 pub mod Examples
 pub mod LengthLaws
-pub mod LinkLaws
 pub mod Longest
 pub mod ParseLaws
 pub mod Printing

@@ -1,7 +1,7 @@
 -- The bound on the length of a text is reached.
 use Rattle.std.proofs.Common.{ℕ, zero, suc, ◌+◌, ◌*◌, Bool, true, false, cond, List, [], ◌∷◌, map, ◌≡◌, refl, ap, arith, negsuc, length, replicate, length-append, leb}
+use Rattle.std.proofs.lemmas.Bool.{and_from}
 use Rattle.std.proofs.Math.ListN.{length-replicate}
-use Rattle.policy.proofs.ListLaws.{and_in}
 use Rattle.policy.specs.Effect.{effect_number}
 use Rattle.policy.specs.Limits.{is_reading_value, test_number, operand_in_range, comparison_in_range, effect_in_range, ending_in_range, ending_allowed, in_range, crowded, repeats, repeated, valid, allowed, trigger_form, Acceptable}
 use Rattle.policy.specs.Line.{PolicyLine, rule, constraint, heads_of, comparisons_of, ending_of}
@@ -41,7 +41,7 @@ long_constraint = record { actions = map (λ (n : ℕ). record { 0 = n }) eight;
 module _ {A : Type 0} (line : A → PolicyLine) (x : A) where
   copies_all : (p : PolicyLine → Bool) → p (line x) ≡ true → (n : ℕ) → list_all p (map line (replicate n x)) ≡ true
   copies_all p v zero = refl
-  copies_all p v (suc n) = and_in v (copies_all p v n)
+  copies_all p v (suc n) = and_from _ _ v (copies_all p v n)
 
   copies_long : (w : ℕ) → length (line_bytes (line x)) + 1 ≡ w → (n : ℕ) → length (lines_text (map line (replicate n x))) ≡ n * w
   unfolding lines_text

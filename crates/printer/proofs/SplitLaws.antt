@@ -1,7 +1,8 @@
 -- Laws of joining and splitting: tokens joined by spaces are the tokens of the line, and ended lines are the lines of the text.
 use Rattle.std.proofs.Common.{ℕ, Bool, true, not, ◌&&◌, List, [], ◌∷◌, ◌++◌, map, ◌≡◌, refl, sym, ap, ◌∙◌, arith, eq-eqb, eqb, ltb}
+use Rattle.std.proofs.lemmas.List.Folds.{list_all-append}
+use Rattle.std.proofs.lemmas.Bool.{and_from, and_parts}
 use Rattle.std.proofs.lemmas.Bool.Decides.{nat_tests}
-use Rattle.policy.proofs.ListLaws.{and_in, and_out, all_append}
 use Rattle.policy.specs.Line.{PolicyLine}
 use Rattle.std.specs.List.{list_all}
 use Rattle.policy.specs.declared.comparison.Comparison.{Comparison}
@@ -27,13 +28,13 @@ module _ {A : Type 0} where
 
   pub all_mapped : {B : Type 0} (p : B → Bool) (f : A → B) → ((x : A) → p (f x) ≡ true) → (xs : List A) → list_all p (map f xs) ≡ true
   all_mapped p f h [] = refl
-  all_mapped p f h (x ∷ xs) = and_in (h x) (all_mapped p f h xs)
+  all_mapped p f h (x ∷ xs) = and_from _ _ (h x) (all_mapped p f h xs)
 
   pub all_joined : (p : A → Bool) (sep : A) (xs : List (List A)) → p sep ≡ true → list_all (list_all p) xs ≡ true → list_all p (joined_by sep xs) ≡ true
   unfolding joined_by
   all_joined p sep [] s h = refl
-  all_joined p sep (x ∷ []) s h = (and_out (list_all p x) true h).0
-  all_joined p sep (x ∷ y ∷ ys) s h = grind (arith, all_append, all_joined p sep (y ∷ ys))
+  all_joined p sep (x ∷ []) s h = (and_parts (list_all p x) true h).0
+  all_joined p sep (x ∷ y ∷ ys) s h = grind (arith, list_all-append, all_joined p sep (y ∷ ys))
 
 -- ---- pieces
 
@@ -63,7 +64,7 @@ clean t = not (is_empty t) && list_all inside t
 
 clean_all : (p : ℕ → Bool) → ((b : ℕ) → inside b ≡ true → p b ≡ true) → (t : Token) → clean t ≡ true → list_all p t ≡ true
 unfolding clean
-clean_all p f t h = all_weaker inside p f t (and_out (not (is_empty t)) (list_all inside t) h).1
+clean_all p f t h = all_weaker inside p f t (and_parts (not (is_empty t)) (list_all inside t) h).1
 
 no_space : (b : ℕ) → inside b ≡ true → other 32 b ≡ true
 no_space b h = grind arith
@@ -73,7 +74,7 @@ unfolding tokens_of joined_by clean non_empty pieces
 tokens_joined [] h = refl
 tokens_joined ((b ∷ t) ∷ []) h = ap non_empty (pieces_last 32 b t (clean_all (other 32) no_space (b ∷ t) (grind arith)))
 tokens_joined ((b ∷ t) ∷ u ∷ us) h =
-    let r = and_out (clean (b ∷ t)) (list_all clean (u ∷ us)) h in
+    let r = and_parts (clean (b ∷ t)) (list_all clean (u ∷ us)) h in
     ap non_empty (pieces_past 32 (b ∷ t) (joined_by 32 (u ∷ us)) (clean_all (other 32) no_space (b ∷ t) r.0))
     ∙ ap (λ (ps : List Token). (b ∷ t) ∷ ps) (tokens_joined (u ∷ us) r.1)
 tokens_joined ([] ∷ _) h = cc
@@ -119,7 +120,7 @@ condition_clean (c ∷ cs) = all_joined clean (bytes ",") (map comparison_tokens
 
 heads_clean : {A : Type 0} (token : A → Token) → ((x : A) → clean (token x) ≡ true) → (xs : List A) → list_all clean (head_tokens token xs) ≡ true
 unfolding head_tokens clean bytes
-heads_clean token h xs = all_joined clean (bytes "&") (map (λ x. token x ∷ []) xs) refl (all_mapped (list_all clean) (λ x. token x ∷ []) (λ x. and_in (h x) refl) xs)
+heads_clean token h xs = all_joined clean (bytes "&") (map (λ x. token x ∷ []) xs) refl (all_mapped (list_all clean) (λ x. token x ∷ []) (λ x. and_from _ _ (h x) refl) xs)
 
 effect_clean : (x : Effect) → list_all clean (effect_tokens x) ≡ true
 unfolding effect_tokens event_token action_token clean bytes
@@ -127,7 +128,7 @@ effect_clean x = grind (arith, decimal_inside)
 
 line_clean : (l : PolicyLine) → list_all clean (line_tokens l) ≡ true
 unfolding line_tokens clean bytes
-line_clean l = grind (arith, all_append, heads_clean literal_token literal_clean, heads_clean action_token action_clean, effect_clean, condition_clean)
+line_clean l = grind (arith, list_all-append, heads_clean literal_token literal_clean, heads_clean action_token action_clean, effect_clean, condition_clean)
 
 -- ---- so they are the tokens of its bytes, and its bytes are a line
 
@@ -158,4 +159,4 @@ line_ascii = line_all ascii (λ b h. grind arith) refl
 pub lines_ascii : (ls : List PolicyLine) → list_all ascii (lines_text ls) ≡ true
 unfolding lines_text
 lines_ascii [] = refl
-lines_ascii (l ∷ ls) = all_append ascii (line_bytes l) (10 ∷ lines_text ls) (line_ascii l) (lines_ascii ls)
+lines_ascii (l ∷ ls) = list_all-append ascii (line_bytes l) (10 ∷ lines_text ls) ∙ and_from _ _ (line_ascii l) (lines_ascii ls)

@@ -10,7 +10,7 @@ use output::Sink;
 use policy::{Comparison, Ending, Test};
 
 /// Literals or actions, with `&` between each two.
-#[tactic(auto, using(crate::proofs::LinkLaws::put_laws), unfolding(crate::specs::Steps::Value::linked, lexer::specs::Byte::bytes))]
+#[tactic(auto, using(output::proofs::SinkLaws::put_laws), unfolding(crate::specs::Steps::Value::linked, lexer::specs::Byte::bytes))]
 fn put_heads<S: Sink>(sink: &mut S, heads: &[Test])
     ensures { sink.new ≡ fed S.taken sink.old (linked test_token [] (bytes " & ") heads.now) }
 {
@@ -24,7 +24,7 @@ fn put_heads<S: Sink>(sink: &mut S, heads: &[Test])
 }
 
 /// Comparisons behind `if`, with a comma between each two; nothing where there are none.
-#[tactic(auto, using(crate::proofs::LinkLaws::put_laws), unfolding(crate::specs::Steps::Value::linked, lexer::specs::Byte::bytes))]
+#[tactic(auto, using(output::proofs::SinkLaws::put_laws), unfolding(crate::specs::Steps::Value::linked, lexer::specs::Byte::bytes))]
 fn put_condition<S: Sink>(sink: &mut S, comparisons: &[Comparison])
     ensures { sink.new ≡ fed S.taken sink.old (linked comparison_text (bytes " if ") (bytes " , ") comparisons.now) }
 {

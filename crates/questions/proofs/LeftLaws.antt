@@ -71,7 +71,7 @@ pub record Compiled (image : List ℕ) (texts : Result Policy Refusal) : Type 0 
 
 pub compiled_read : (image : List ℕ) (read : Result Policy Refusal) → result_map_both (image_of newest_form) (λ x. x) read ≡ Ok image → Compiled image read
 compiled_read image (Ok p) k = record { policy = p; read = refl; is = cc }
-compiled_read image (Err x) k = absurd cc
+compiled_read image (Err x) k = cc
 
 module _ (maker site image : List ℕ) (k : Compiled image (read_texts newest_form maker site)) where
   on_texts : (pending : EventSet) (e : List ℕ) (n : ℕ) → explained_on maker site pending e n image ≡ explained maker site pending e n

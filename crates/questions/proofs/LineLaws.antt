@@ -1,11 +1,12 @@
 -- What is held of a line asks what the line asks, whatever both go on with.
-use Rattle.std.proofs.Common.{ℕ, zero, suc, ◌+◌, ◌-◌, ◌≤◌, Bool, true, false, not, cond, ◌&&◌, List, [], ◌∷◌, ◌++◌, append_assoc, append-nil, ◌≡◌, refl, sym, ap, ◌∙◌, arith, fold, length, length-take-le, set, take, take_all, min, ltb, take-take}
+use Rattle.std.proofs.Common.{ℕ, zero, suc, ◌+◌, ◌-◌, ◌≤◌, Bool, true, false, cond, ◌&&◌, List, [], ◌∷◌, ◌++◌, append_assoc, append-nil, ◌≡◌, refl, sym, ap, ◌∙◌, arith, fold, length, length-take-le, set, take, take_all, min, ltb, take-take}
+use Rattle.std.proofs.lemmas.List.Folds.{list_all-append}
+use Rattle.std.proofs.lemmas.Bool.{and_from}
 use Rattle.std.proofs.lemmas.Grind.{take-set_at}
 use Rattle.std.proofs.Math.Seq.{take-append_seam}
-use Rattle.policy.proofs.ListLaws.{and_in, and_out, all_append, true_false}
 use Rattle.std.specs.List.{list_all}
 use Rattle.lexer.proofs.LeadingLaws.{leading_joined, leading_length, leading_pass, leading_ends}
-use Rattle.lexer.specs.Byte.{is_space, is_digit}
+use Rattle.lexer.specs.Byte.{is_digit}
 use Rattle.lexer.specs.Lines.{take_leading, drop_leading}
 use Rattle.lexer.specs.Number.{is_empty}
 use Rattle.stream.proofs.FrontLaws.{cut_before}
@@ -131,7 +132,7 @@ module _ (m : ℕ) (enough : line_held ≤ m) (names : Names) (l part : List ℕ
       goes (w ++ t) (record { few = rw front m.few; one = rw front m.one })
       (λ rest.
       ap (matter names') (append_assoc w t rest)
-      ∙ words_matter names' w names (l ++ v) (t ++ rest) all_word (all_append in_word l v whole passes) (λ u. m.begun u ∙ ap (is_begun names) (sym (append_assoc l v u))) (λ u. m.asked u ∙ ap (λ x. asked_in names (names_in x)) (sym (append_assoc l v u)))
+      ∙ words_matter names' w names (l ++ v) (t ++ rest) all_word (list_all-append in_word l v ∙ and_from _ _ whole passes) (λ u. m.begun u ∙ ap (is_begun names) (sym (append_assoc l v u))) (λ u. m.asked u ∙ ap (λ x. asked_in names (names_in x)) (sym (append_assoc l v u)))
       ∙ ap (matter names) (sym (append_assoc (l ++ v) t rest) ∙ ap (λ x. x ++ rest) (append_assoc l v t ∙ ap (λ x. l ++ x) (leading_joined in_word part))))
       is
 

@@ -1,9 +1,9 @@
 -- Laws of the names of a first word: how a number is read, which further bytes of a name tell nothing, and what names together ask.
-use Rattle.std.proofs.Common.{ℕ, suc, ◌+◌, ◌*◌, ◌-◌, ◌<◌, ◌≤◌, Bool, true, false, not, cond, ◌&&◌, eqb, List, [], ◌∷◌, ◌++◌, append_assoc, append-nil, ◌≡◌, refl, sym, ap, ◌∙◌, arith, fold, get_or, length, length-append, length-take, take, take_all, drop, min, leb-true, eqb-true, zero, Option, Some, None, option_map, option_and_then, leb, ltb}
-use Rattle.std.proofs.lemmas.Bool.{eqb-false}
+use Rattle.std.proofs.Common.{ℕ, suc, ◌+◌, ◌*◌, ◌-◌, ◌<◌, ◌≤◌, Bool, true, false, not, cond, eqb, List, [], ◌∷◌, ◌++◌, append_assoc, append-nil, ◌≡◌, refl, sym, ap, ◌∙◌, arith, fold, get_or, length, length-append, length-take, take, take_all, drop, min, eqb-true, zero, Option, Some, None, option_map, option_and_then}
+use Rattle.std.proofs.lemmas.List.Folds.{list_all-append}
+use Rattle.std.proofs.lemmas.Bool.{and_from, and_parts}
 use Rattle.std.proofs.lemmas.List.{take_rest}
 use Rattle.std.proofs.lemmas.Bool.Decides.{nat_tests}
-use Rattle.policy.proofs.ListLaws.{and_in, and_out, all_append}
 use Rattle.std.specs.List.{list_all}
 use Rattle.policy.specs.Number.{check_event}
 use Rattle.lexer.proofs.DigitLaws.{not_number}
@@ -12,7 +12,7 @@ use Rattle.lexer.proofs.RunLaws.{all_broken}
 use Rattle.lexer.specs.Byte.{is_digit}
 use Rattle.lexer.specs.Lines.{prepend, take_leading, drop_leading}
 use Rattle.lexer.specs.Number.{decimal_from, is_empty, number_of}
-use Rattle.lexer.specs.Steps.Scan.{clip, clipped_before, digits_in}
+use Rattle.lexer.specs.Steps.Scan.{clip, digits_in}
 use Rattle.lexer.specs.Token.{named}
 use Rattle.questions.specs.Answered.{in_word, names_in, first_asked, with_event, behind_comma, asked_by}
 use Rattle.questions.specs.Steps.Held.{asked_with, asked_in, name_with, Open, with_byte, in_name, is_begun}
@@ -157,7 +157,7 @@ all_take (suc n) (b ∷ w) h = grind (arith, all_take n w)
 
 all_more : (w : List ℕ) (b : ℕ) → list_all in_name w ≡ true → in_name b ≡ true → list_all in_name (name_with w b) ≡ true
 unfolding name_with
-all_more w b h k = grind (arith, all_append, all_take)
+all_more w b h k = grind (arith, list_all-append, all_take)
 
 -- what is open where further bytes come
 pub record More (o : Open) (v : List ℕ) (o' : Open) : Type 0 where
@@ -187,8 +187,8 @@ byte_more o b h k w =
       }
       | false ↦ λ e. record {
         few = few_more o.name b h;
-        one = all_more o.name b k (and_in w (ap not e));
-        asked = λ u. asked_same u (and_in w (ap not e));
+        one = all_more o.name b k (and_from _ _ w (ap not e));
+        asked = λ u. asked_same u (and_from _ _ w (ap not e));
         begun = λ u. begun_more o.names o.name u b ∙ sym (begun_some o.names o.name u b);
       }
     ] refl
@@ -197,13 +197,13 @@ byte_more o b h k w =
     asked_same u n =
         asked_front o.names (name_with o.name b) u (all_more o.name b k n)
         ∙ ap (λ a. fold behind_comma a (later (names_in u))) (name_more o.names o.name b h (front (names_in u)) ∙ ap (asked_with o.names) (sym (append_assoc o.name (b ∷ []) (front (names_in u)))))
-        ∙ sym (asked_front o.names (o.name ++ b ∷ []) u (all_append in_name o.name (b ∷ []) k (and_in n refl)))
+        ∙ sym (asked_front o.names (o.name ++ b ∷ []) u (list_all-append in_name o.name (b ∷ []) ∙ and_from _ _ k (and_from _ _ n refl)))
         ∙ ap (λ l. asked_in o.names (names_in l)) (append_assoc o.name (b ∷ []) u)
 
 pub word_more : (v : List ℕ) (o : Open) → length o.name ≤ name_held → list_all in_name o.name ≡ true → list_all in_word v ≡ true → More o v (fold with_byte o v)
 word_more [] o h k p = record { few = h; one = k; asked = λ u. refl; begun = λ u. refl }
 word_more (b ∷ v) o h k p =
-    let (q, q') = and_out (in_word b) (list_all in_word v) p in
+    let (q, q') = and_parts (in_word b) (list_all in_word v) p in
     let n = byte_more o b h k q in
     let m = word_more v (with_byte o b) n.few n.one q' in
     record { few = m.few; one = m.one; asked = λ u. m.asked u ∙ n.asked (v ++ u); begun = λ u. m.begun u ∙ n.begun (v ++ u) }

@@ -1,8 +1,6 @@
 -- Laws of the list of a set's actions, and of the loop that puts it.
 use Rattle.std.proofs.Common.{◌≡◌, add-one, ℕ, suc, ◌+◌, ◌-◌, ◌<◌, ◌≤◌, Bool, true, false, List, [], ◌∷◌, arith}
-use Rattle.std.proofs.lemmas.Grind.{common_steps}
 use Rattle.policy.specs.Set.{has, members_from}
-use Rattle.output.specs.Sink.{fed-none, fed-join}
 use Rattle.report.specs.Report.{further_names, action_names}
 
 -- the members from n on
@@ -26,4 +24,4 @@ unfoldable pub remaining : Bool → List ℕ → List ℕ
 remaining true ns = action_names ns
 remaining false ns = further_names ns
 
-pub ruleset put_laws = (common_steps, fed-none, fed-join, members_has, members_lacks, members_over)
+pub ruleset member_laws = (members_has, members_lacks, members_over)

@@ -26,7 +26,7 @@ fn put_member<S: Sink>(sink: &mut S, number: u8, first: bool)
 }
 
 /// Puts the names of the actions with commas between them, or `-` for none.
-#[tactic(auto, using(crate::proofs::ActionLaws::put_laws), unfolding(crate::proofs::ActionLaws::remaining, crate::specs::Report::action_names, crate::specs::Report::further_names))]
+#[tactic(auto, using(output::proofs::SinkLaws::put_laws, crate::proofs::ActionLaws::member_laws), unfolding(crate::proofs::ActionLaws::remaining, crate::specs::Report::action_names, crate::specs::Report::further_names))]
 pub(crate) fn put_actions<S: Sink>(sink: &mut S, set: ActionSet)
     ensures { sink.new ≡ fed S.taken sink.old (action_names (members_of set)) }
 {

@@ -144,7 +144,7 @@ module _ (c d : Counts) (n : ℕ) (text bytes : List ℕ) (behind : List (Result
   unfolding count_lines tallied_by before_later
   line_small (Ok None) h e = later c small e
   line_small (Ok (Some l)) h e = let x = line_taken c d l n behind e in later x.0 (small_line c x.0 l (h l refl) small x.1) x.2
-  line_small (Err f) h e = absurd cc
+  line_small (Err f) h e = cc
 
 lines_small : (form : ℕ) (ls : List (List ℕ)) (n : ℕ) (text : List ℕ) (c d : Counts) → Small c → count_lines c (lines_from form n text ls) ≡ Ok d → Small d
 unfolding count_lines lines_from

@@ -9,13 +9,13 @@ use Rattle.operation.specs.Said.{says_by, says, constants_of}
 use Rattle.operation.specs.declared.operation.Operation.{Operation}
 use Rattle.operation.specs.declared.said.LinePart.{LinePart}
 use Rattle.operation.proofs.SaidLaws.{said_by}
-use Rattle.operation.proofs.WholeLaws.{InLine, OnLines, in_line_inside, lines_inside, line_goes_on, lines_behind}
+use Rattle.operation.proofs.WholeLaws.{in_line_inside, lines_behind, OnLines}
 use Rattle.operation.specs.Whole.{ends, ends_line}
 use Rattle.run.specs.Run.{ran, constraint_test, ends_constraint, fetches, up_to}
 use Rattle.run.specs.Steps.Test.{IsTestOf, said_at, left_at}
 use Rattle.run.specs.Steps.Wait.{holds_from, tried_from}
 use Rattle.run.specs.declared.test.Tested.{Tested}
-use Rattle.run.proofs.RunLaws.{constant_on, ran_end, turn}
+use Rattle.run.proofs.RunLaws.{ran_end, turn, line_here, word_here, goes_onward}
 use Rattle.run.proofs.FetchLaws.{fetches_up_to}
 
 pub ends_same : (p : LinePart) → ends_line Part.Constraints p ≡ ends_constraint p
@@ -95,41 +95,25 @@ module _ {rs : Readings} {s : ActionSet} {ws : List ℕ} where
     abbrev here : LinePart
     here = says w (get_or ws behind 0)
 
-    line : InLine Part.Constraints ws b.at
-    line = lines_inside Part.Constraints ws b.at (omega (arith, b.next)) b.lines
-
-    this_at : w ≡ get_or ws b.at 0
-    this_at = this ∙ ap (λ (n : ℕ). get_or ws n 0) (omega (arith, b.next))
-
-    -- behind a word that ends no constraint stands another of its line
-    goes_onward : ends_constraint here ≡ false → InLine Part.Constraints ws (behind + constants_of here)
-    goes_onward n = rw b.next (line_goes_on Part.Constraints ws b.at w this_at line (rw (← b.next) (ends_same here ∙ n)))
-
-    -- a constant has a word of its line behind it
-    pub constant_within : operation_of w ≡ Operation.AgainstConstant → behind + 1 < length ws
-    constant_within o =
-        let is = constant_on Part.Constraints w (get_or ws behind 0) o in
-        omega (arith, is.1, in_line_inside Part.Constraints ws _ (goes_onward (sym (ends_same here) ∙ is.0)))
-
     module _ {t : Tested} (is : IsTestOf rs s here behind t) where
       goes : (holds : Bool) → t.holds ≡ holds → {next from' : ℕ} → next ≡ behind + constants_of here + cond holds 0 (skip_of w) → from' ≡ from + cond holds 0 (skip_of w) → Going rs s ws next from'
       goes holds h e f =
           let test : holds ≡ constraint_test rs s here = sym h ∙ ap (λ (x : Tested). x.holds) is.is in
-          go_on rs s ws b.at w (omega (arith, b.next)) this_at _ holds (rw (← b.next) test) (rw (← b.next) e) b.going (rw (← b.next) is.goes_on) f
+          go_on rs s ws b.at w (omega (arith, b.next)) (word_here b.next b.lines within this) _ holds (rw (← b.next) test) (rw (← b.next) e) b.going (rw (← b.next) is.goes_on) f
 
       next_is : t.next ≡ behind + constants_of here
       next_is = ap (λ (x : Tested). x.next) is.is
 
       pub test_held : t.holds ≡ true → Begins rs s ws (t.next + 1) from × (t.next < length ws)
       test_held h =
-          let on = goes_onward is.goes_on in (
+          let on = goes_onward b.next b.lines within this (ends_same here ∙ is.goes_on) in (
             record { at = behind + constants_of here; next = omega (arith, next_is); lines = record { left = suc on.left; whole = on.whole }; going = goes true h (omega arith) (omega arith) },
             omega (arith, next_is, in_line_inside Part.Constraints ws _ on),
           )
 
       pub test_failed : t.holds ≡ false → {next from' : ℕ} → next ≡ t.next + 1 + skip_of w → from' ≡ from + skip_of w → Begins rs s ws next from'
       test_failed h e f =
-          record { at = behind + constants_of here + skip_of w; next = omega (arith, e, next_is); lines = rw b.next (lines_behind Part.Constraints ws b.at w this_at line); going = goes false h refl f }
+          record { at = behind + constants_of here + skip_of w; next = omega (arith, e, next_is); lines = rw b.next (lines_behind Part.Constraints ws b.at w (word_here b.next b.lines within this) (line_here b.next b.lines within this)); going = goes false h refl f }
 
   -- ---- where the loops are left
 

@@ -4,17 +4,15 @@ use Rattle.policy.specs.Effect.{no_effects}
 use Rattle.policy.specs.declared.effect.Effects.{Effects}
 use Rattle.policy.specs.declared.epoch.Readings.{Readings}
 use Rattle.policy.specs.declared.set.Events.{Events}
-use Rattle.operation.specs.Fields.{skip_of, operation_of}
+use Rattle.operation.specs.Fields.{skip_of}
 use Rattle.operation.specs.Said.{says, constants_of}
-use Rattle.operation.specs.Whole.{ends_line}
 use Rattle.operation.specs.declared.said.LinePart.{LinePart}
-use Rattle.operation.specs.declared.operation.Operation.{Operation}
-use Rattle.operation.proofs.WholeLaws.{InLine, OnLines, in_line_inside, lines_inside, line_goes_on, lines_behind, lines_onward}
+use Rattle.operation.proofs.WholeLaws.{OnLines, in_line_inside, lines_behind, lines_onward}
 use Rattle.policy.specs.declared.line.Part.{Part}
 use Rattle.run.specs.Run.{ran, rule_test, taking, fetches}
 use Rattle.run.specs.Steps.Test.{IsTestIn, AsksNothing}
 use Rattle.run.specs.declared.test.Tested.{Tested}
-use Rattle.run.proofs.RunLaws.{constant_on, ran_end, turn}
+use Rattle.run.proofs.RunLaws.{ran_end, turn, line_here, word_here, goes_onward}
 
 module _ (ev : Events) (rs : Readings) (ws : List ℕ) where
   -- the effects in the end, with those before an index
@@ -40,23 +38,10 @@ module _ {ev : Events} {rs : Readings} {ws : List ℕ} where
     abbrev said : LinePart
     said = says w (get_or ws behind 0)
 
-    line_here : InLine Part.Rules ws g.at
-    line_here = lines_inside Part.Rules ws g.at (omega (arith, g.next)) g.lines
-
-    this_at : w ≡ get_or ws g.at 0
-    this_at = this ∙ ap (λ (n : ℕ). get_or ws n 0) (omega (arith, g.next))
-
     go_on : (holds : Bool) → holds ≡ rule_test ev rs said → (next : ℕ) → next ≡ behind + constants_of said + cond holds 0 (skip_of w) → OnLines Part.Rules ws next → (s' : Effects) → s' ≡ taking s said
         → (behind' from' : ℕ) → behind' ≡ next + 1 → from' ≡ from + cond holds 0 (skip_of w) → Running ev rs ws s' behind' from'
     unfolding fetches
-    go_on holds h next e on s' t behind' from' b f = grind (arith, turn, this_at)
-
-    -- behind a word that ends no rule stands another of its line
-    goes_onward : ends_line Part.Rules said ≡ false → InLine Part.Rules ws (behind + constants_of said)
-    goes_onward n = rw g.next (line_goes_on Part.Rules ws g.at w this_at line_here (rw (← g.next) n))
-
-    pub constant_within : operation_of w ≡ Operation.AgainstConstant → behind + 1 < length ws
-    constant_within o = grind (arith, constant_on, in_line_inside, goes_onward)
+    go_on holds h next e on s' t behind' from' b f = grind (arith, turn, word_here g.next g.lines within this)
 
     module _ {t : Tested} (is : IsTestIn ev rs said behind t) where
       next_is : t.next ≡ behind + constants_of said
@@ -68,19 +53,19 @@ module _ {ev : Events} {rs : Readings} {ws : List ℕ} where
       -- a test that holds
       pub rules_held : t.holds ≡ true → Running ev rs ws s (t.next + 1) from × (t.next < length ws)
       rules_held e =
-          let on = goes_onward is.goes_on in (
+          let on = goes_onward g.next g.lines within this is.goes_on in (
             go_on true (sym e ∙ tested) (behind + constants_of said) (omega arith) (record { left = suc on.left; whole = on.whole }) s (sym (is.yields_none s)) _ _ (omega (arith, next_is)) (omega arith),
             omega (arith, next_is, in_line_inside Part.Rules ws _ on),
           )
 
       -- one that fails
       pub rules_failed : t.holds ≡ false → {m n : ℕ} → m ≡ skip_of w → n ≡ skip_of w → Running ev rs ws s (t.next + 1 + m) (from + n)
-      rules_failed e p q = grind (arith, go_on, tested, lines_behind, this_at, line_here, next_is)
+      rules_failed e p q = grind (arith, go_on, tested, lines_behind, word_here g.next g.lines within this, line_here g.next g.lines within this, next_is)
 
     -- a word that asks for none
     pub rules_pass : AsksNothing ev rs said → Running ev rs ws (taking s said) (behind + 1) from
     rules_pass none =
-        let on : OnLines Part.Rules ws behind = rw g.next (lines_onward Part.Rules ws g.at w this_at line_here (rw (← g.next) none.alone)) in
+        let on : OnLines Part.Rules ws behind = rw g.next (lines_onward Part.Rules ws g.at w (word_here g.next g.lines within this) (line_here g.next g.lines within this) (rw (← g.next) none.alone)) in
         go_on true (sym none.holds) behind (omega (arith, none.alone)) on _ refl _ _ refl (omega arith)
 
 module _ (ev : Events) (rs : Readings) (ws : List ℕ) (at : ℕ) (past : length ws ≤ at) where

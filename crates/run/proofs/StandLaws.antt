@@ -1,14 +1,12 @@
 -- All lines: how far a trial of one action more has come, and where the lines stand when it is kept.
-use Rattle.std.proofs.Common.{ℕ, zero, suc, ◌+◌, ◌-◌, ◌/◌, ◌^◌, ◌≤◌, ◌<◌, Bool, true, false, ◌⊎◌, List, ◌≢◌, ◌≡◌, refl, sym, ap, ◌∙◌, subst, arith, eq-eqb, get_or, set, length, length-set, get_or-set_same, get_or-set_other, replicate, shr-shr, pow_pos, eqb, w64}
-use Rattle.std.proofs.Math.Nat.{div-eq_of_lt}
+use Rattle.std.proofs.Common.{ℕ, zero, suc, ◌+◌, ◌-◌, ◌/◌, ◌^◌, ◌≤◌, ◌<◌, Bool, true, false, ◌⊎◌, List, ◌≢◌, ◌≡◌, refl, sym, ap, ◌∙◌, subst, arith, eq-eqb, get_or, set, length, length-set, get_or-set_same, get_or-set_other, replicate, eqb, w64}
 use Rattle.std.proofs.Math.Path.{fun_ext}
 use Rattle.std.proofs.lemmas.Grind.{get_or-set_at}
 use Rattle.std.proofs.lemmas.List.{get_or-replicate, get_or_past, length-replicate}
-use Rattle.std.proofs.lemmas.Nat.Bits.{bit_at-trailing_zeros}
-use Rattle.std.specs.Int.{bit_at, trailing_zeros}
+use Rattle.std.specs.Int.{trailing_zeros}
 use Rattle.policy.specs.declared.epoch.Readings.{Readings}
 use Rattle.policy.specs.Set.{ActionSet, has, insert, set_of, no_actions}
-use Rattle.policy.proofs.SetLaws.{has_insert_same, has_insert_old, has_insert_cases, has_insert_other, has_empty}
+use Rattle.policy.proofs.SetLaws.{has_insert_same, has_insert_old, has_insert_cases, has_insert_other, has_empty, others_next, none_left, first_there, none_before}
 use Rattle.operation.proofs.WholeLaws.{OnLines}
 use Rattle.policy.specs.declared.line.Part.{Part}
 use Rattle.run.proofs.FetchLaws.{trial_fetches_few}
@@ -23,29 +21,6 @@ use Rattle.run.specs.declared.waiting.Waiting.{Waiting}
 -- what holds of one index, and of every other, holds of all
 at_each : {P : ℕ → Type 0} (n : ℕ) → P n → ((i : ℕ) → i ≢ n → P i) → (i : ℕ) → P i
 at_each n here other i = grind arith
-
--- ---- the members of a set of lines, one after another
-
-module _ (bits n left : ℕ) (others : left ≡ bits / 2 ^ n) where
-  pub others_next : (k : ℕ) → left / 2 ^ k ≡ bits / 2 ^ (n + k)
-  others_next k = rw others (shr-shr bits n k)
-
-  has_at : (i : ℕ) → n ≤ i → has bits i ≡ eqb (bit_at left (i - n)) 1
-  unfolding has
-  has_at i h = let same : n + (i - n) ≡ i = omega arith in cc (same, shr-shr bits n (i - n))
-
-  pub none_left : left ≡ 0 → (i : ℕ) → n ≤ i → has bits i ≡ false
-  none_left z i h = has_at i h ∙ rw (z, div-eq_of_lt (pow_pos (i - n))) refl
-
-  module _ (some : left ≢ 0) (small : left < 2 ^ 64) where
-    lowest : (trailing_zeros w64 left < 64) × (bit_at left (trailing_zeros w64 left) ≡ 1) × ((i : ℕ) → i < trailing_zeros w64 left → bit_at left i ≡ 0)
-    lowest = bit_at-trailing_zeros w64 left (omega (arith, some)) small
-
-    pub first_there : has bits (n + trailing_zeros w64 left) ≡ true
-    first_there = let same : n + trailing_zeros w64 left - n ≡ trailing_zeros w64 left = omega arith in has_at _ (omega arith) ∙ rw (same, lowest.1) refl
-
-    pub none_before : (i : ℕ) → n ≤ i → i < n + trailing_zeros w64 left → has bits i ≡ false
-    none_before i h k = has_at i h ∙ rw (lowest.2 (i - n) (omega arith)) refl
 
 -- ---- a larger set
 

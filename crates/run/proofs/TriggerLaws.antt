@@ -6,9 +6,9 @@ use Rattle.operation.specs.Fields.{skip_of}
 use Rattle.operation.specs.Said.{says_by, says, constants_of}
 use Rattle.operation.specs.Whole.{ends, ends_line, whole_from, whole_lines}
 use Rattle.operation.specs.declared.said.LinePart.{LinePart}
-use Rattle.operation.proofs.WholeLaws.{WholeWord, whole_word, word_whole, whole_behind, whole_passed}
+use Rattle.operation.proofs.WholeLaws.{WholeWord, whole_word, word_whole, whole_behind, whole_passed, rest_at}
 use Rattle.run.specs.Run.{ran, taking}
-use Rattle.run.proofs.RunLaws.{rest_at, ran_pass}
+use Rattle.run.proofs.RunLaws.{ran_pass}
 
 abbrev every : LinePart → Bool
 every said = true
@@ -70,7 +70,7 @@ module _ (left w : ℕ) (ws : List ℕ) (e : whole_from Part.Rules 0 (suc left) 
 line_effect : (fuel left : ℕ) (ws : List ℕ) → left < fuel → whole_from Part.Rules 0 (suc left) ws ≡ true → LineEffect left ws
 unfolding whole_from
 line_effect zero left ws f e = absurd (omega arith)
-line_effect (suc fuel) left [] f e = absurd cc
+line_effect (suc fuel) left [] f e = cc
 line_effect (suc fuel) left (w ∷ ws) f e =
     elim (ends_line Part.Rules (says w (get_or ws 0 0))) as (λ b. ends_line Part.Rules (says w (get_or ws 0 0)) ≡ b → LineEffect left (w ∷ ws)) [
       | true ↦ at_last left w ws e
@@ -88,7 +88,7 @@ pub line_at : {ws : List ℕ} {at w fetched skip : ℕ} → at < length ws → w
     → LineAt ws at (at + fetched + skip)
 line_at {ws} {at} {w} {fetched} {skip} h this count skips whole =
     let n : ℕ = fetched - 1 + skip in
-    let start : drop at ws ≡ w ∷ drop (at + 1) ws = rw this (rest_at every ws at w h this) in
+    let start : drop at ws ≡ w ∷ drop (at + 1) ws = rw this (rest_at ws at h) in
     let first = whole_word Part.Rules 0 w (drop (at + 1) ws) (rw start at whole) in
     let size : n ≡ constants_of (says w (get_or (drop (at + 1) ws) 0 0)) + skip_of w = omega (arith, count (get_or (drop (at + 1) ws) 0 0), skips) in
     let line : whole_from Part.Rules 0 (suc n) (drop at ws) ≡ true = rw start (word_whole Part.Rules (suc n) w (drop (at + 1) ws) (record { here = grind arith; onward = first.onward; rest = first.rest })) in

@@ -3,12 +3,11 @@ use Rattle.std.proofs.Common.{ℕ, suc, ◌+◌, ◌-◌, ◌≤◌, ◌<◌, Bo
 use Rattle.policy.specs.declared.epoch.Readings.{Readings}
 use Rattle.policy.specs.declared.line.Part.{Part}
 use Rattle.policy.specs.Set.{ActionSet, has}
-use Rattle.operation.proofs.WholeLaws.{InLine, WholeWord, whole_word, whole_passed, in_line_inside, OnLines, lines_inside, lines_behind}
+use Rattle.operation.proofs.WholeLaws.{rest_at, behind, InLine, WholeWord, whole_word, whole_passed, in_line_inside, OnLines, lines_inside, lines_behind, constant_inside}
 use Rattle.operation.specs.Fields.{first_of, skip_of, operation_of}
 use Rattle.operation.specs.Said.{says, says_by, constants_of}
 use Rattle.operation.specs.declared.operation.Operation.{Operation}
 use Rattle.operation.specs.declared.said.LinePart.{LinePart}
-use Rattle.run.proofs.RunLaws.{constant_on, rest_at, behind}
 use Rattle.run.proofs.ConstraintLaws.{IsMember, is_member, ends_same, run_word, fetch_word, constraints_last, fetch_last}
 use Rattle.run.specs.Run.{constraint_test, ends_constraint}
 use Rattle.run.specs.Steps.Test.{IsTestOf}
@@ -99,9 +98,7 @@ module _ {rs : Readings} {ws : List ℕ} {s : ActionSet} {from end at w : ℕ} (
 
   -- a constant has a word of its line behind it
   pub constant_within : operation_of w ≡ Operation.AgainstConstant → at + 1 < length ws
-  constant_within o =
-      let is = constant_on Part.Constraints w (get_or ws (at + 1) 0) o in
-      omega (arith, is.1, line_within (line_on a.line this (sym (ends_same word_here) ∙ is.0)))
+  constant_within o = omega (arith, constant_inside Part.Constraints ws at w this (line_in a.line) o)
 
   -- a member
   module _ (m : operation_of w ≡ Operation.Member) (f : ℕ) (ef : f ≡ first_of w) where

@@ -12,7 +12,7 @@ use output::{Page, Sink};
 use word::words;
 
 /// The words of an image, each a line.
-#[tactic(auto, using(report::proofs::ActionLaws::put_laws), unfolding(crate::specs::Listed::word_lines))]
+#[tactic(auto, using(output::proofs::SinkLaws::put_laws), unfolding(crate::specs::Listed::word_lines))]
 fn put_words<S: Sink>(sink: &mut S, words: &[[u8; 4]])
     ensures { sink.new ≡ fed S.taken sink.old (word_lines (words_in words.now)) }
 {

@@ -41,8 +41,8 @@ sends_trans {a = a} {b = b} {c = c} {text = text} {more = more} {all = all} join
     search (rules, join p.events q.events, Keeps-trans a.unread b.unread c.unread, logs_trans a.history b.history c.history p.events q.events, All-append)
 
 none_called : (due : List ℕ → List ℕ) → IsPrompt due []
-none_called due [] call after e r = absurd (cc)
-none_called due (x ∷ before) call after e r = absurd (cc)
+none_called due [] call after e r = absurd cc
+none_called due (x ∷ before) call after e r = absurd cc
 
 pub talks_nil : (due : List ℕ → List ℕ) (a : Known) → Talks due (GoOn 0) a a [] []
 talks_nil due a = search (rules, arith, none_called due)

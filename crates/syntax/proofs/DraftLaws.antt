@@ -1,9 +1,9 @@
 -- Laws of a draft that is filled part by part: what it holds where each part is in range, and that it says where one isn't.
 use Rattle.std.specs.Prelude.{Option as Maybe}
 use Rattle.std.proofs.Common.{ℕ, Bool, true, false, ◌&&◌, ◌||◌, List, [], ◌∷◌, ◌++◌, append-nil, append_assoc, ◌≡◌, refl, sym, ap, ◌∙◌, arith, length, length-append, length-take, take, take_all, Some, None, fold, ltb}
+use Rattle.std.proofs.lemmas.Bool.{and_parts}
 use Rattle.std.proofs.Math.Bool.{and-true, or-false, and_assoc}
 use Rattle.std.proofs.Math.Seq.{take-append-le}
-use Rattle.policy.proofs.ListLaws.{and_out}
 use Rattle.policy.specs.Limits.{in_range, comparison_in_range, ending_in_range, head_limit, comparison_limit}
 use Rattle.policy.specs.Line.{PolicyLine, heads_of, comparisons_of, ending_of}
 use Rattle.std.specs.List.{list_all}
@@ -74,8 +74,8 @@ headed ts = record { heads = take head_limit ts; comparisons = []; ending = Endi
 pub line_held : (l : PolicyLine) → in_range l ≡ true → line_into new_draft l ≡ draft_of (heads_of l) (comparisons_of l) (ending_of l)
 unfolding line_into heads_into comparisons_into ending_into push_head push_comparison end_as in_range test_in_range
 line_held l h =
-    let p = and_out (list_all test_in_range (heads_of l) && list_all comparison_in_range (comparisons_of l)) (ending_in_range (ending_of l)) h in
-    let q = and_out (list_all test_in_range (heads_of l)) (list_all comparison_in_range (comparisons_of l)) p.0 in
+    let p = and_parts (list_all test_in_range (heads_of l) && list_all comparison_in_range (comparisons_of l)) (ending_in_range (ending_of l)) h in
+    let q = and_parts (list_all test_in_range (heads_of l)) (list_all comparison_in_range (comparisons_of l)) p.0 in
     ap (λ (d : Draft). comparisons_into (ending_into d (ending_of l)) (comparisons_of l)) (all_held test_in_range push_head headed head_more [] (heads_of l) q.0)
     ∙ rw p.1 (start ∙ all_held comparison_in_range push_comparison (λ cs. draft_of (heads_of l) cs (ending_of l)) comparison_more [] (comparisons_of l) q.1)
   where

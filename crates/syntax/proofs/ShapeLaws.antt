@@ -1,6 +1,5 @@
 -- Laws of the two shapes: the parts that were read are those of the line.
-use Rattle.std.proofs.Common.{arith, Some, None, Option, option_map}
-use Rattle.std.proofs.Common.{ℕ, Bool, true, false, cond, List, [], ◌∷◌, map, ◌≡◌, refl, ap, ◌∙◌}
+use Rattle.std.proofs.Common.{arith, Some, None, Option, option_map, ℕ, Bool, true, false, cond, List, [], ◌∷◌, map, ◌≡◌, refl, ap, ◌∙◌}
 use Rattle.policy.specs.Limits.{ending_in_range}
 use Rattle.policy.specs.Line.{PolicyLine, heads_of, comparisons_of, ending_of}
 use Rattle.policy.specs.declared.comparison.Literal.{Literal}

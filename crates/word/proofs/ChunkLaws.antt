@@ -1,5 +1,6 @@
 -- The words of an image cut into chunks of four bytes are the words of its bytes.
-use Rattle.std.proofs.Common.{ℕ, zero, suc, ◌/◌, List, [], ◌∷◌, ◌≡◌, refl, ap₂, arith, length}
+use Rattle.std.proofs.Common.{ℕ, zero, suc, ◌/◌, List, [], ◌∷◌, ◌≡◌, refl, ap₂, arith, length, drop, sym}
+use Rattle.std.proofs.lemmas.List.{length-map, drop-map}
 use Rattle.std.specs.Simd.{first_chunks}
 use Rattle.word.specs.Word.{join, words_of}
 use Rattle.word.specs.Chunk.{word_from, words_in}
@@ -15,5 +16,7 @@ words_chunks (suc k) (a ∷ b ∷ c ∷ d ∷ rest) e = ap₂ (λ (x : ℕ) (xs 
 words_chunks (suc k) bytes e = absurd (omega arith)
 
 pub words_in_length : (chunks : List (List ℕ)) → length (words_in chunks) ≡ length chunks
-words_in_length [] = refl
-words_in_length (c ∷ cs) = grind (arith, words_in_length cs)
+words_in_length chunks = length-map chunks word_from
+
+pub words_dropped : (k : ℕ) (chunks : List (List ℕ)) → words_in (drop k chunks) ≡ drop k (words_in chunks)
+words_dropped k chunks = sym (drop-map word_from k chunks)

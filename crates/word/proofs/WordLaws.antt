@@ -1,7 +1,7 @@
 -- Laws of bytes and words, both ways, and of packing a word and taking it apart.
-use Rattle.std.proofs.Common.{ℕ, zero, suc, ◌+◌, ◌*◌, ◌/◌, ◌%◌, ◌^◌, ◌<◌, List, [], ◌∷◌, ◌++◌, append-nil, ◌≡◌, refl, sym, ap, ap₂, ◌∙◌, arith, length, shr-shr}
+use Rattle.std.proofs.Common.{ℕ, zero, suc, ◌+◌, ◌*◌, ◌/◌, ◌%◌, ◌^◌, ◌<◌, List, [], ◌∷◌, ◌++◌, append-nil, ◌≡◌, refl, sym, ap, ap₂, ◌∙◌, arith, length, shr-shr, ◌≤◌, drop, take_all, set}
 use Rattle.std.proofs.Math.Pow.{split}
-use Rattle.word.specs.Word.{word_limit, Below, join, words_of, bytes_of, byte_list}
+use Rattle.word.specs.Word.{word_limit, Below, join, words_of, bytes_of, byte_list, between}
 
 -- ---- words of bytes
 
@@ -67,3 +67,28 @@ pub bytes_append : (a b : List ℕ) → bytes_of (a ++ b) ≡ bytes_of a ++ byte
 unfolding bytes_of
 bytes_append [] b = refl
 bytes_append (w ∷ ws) b = grind (arith, bytes_append ws b)
+
+pub rest_between : (from n : ℕ) (ws : List ℕ) → length ws ≤ n → between from n ws ≡ drop from ws
+unfolding between
+rest_between from n ws h = ap (drop from) (take_all n ws h)
+
+-- ---- words below a limit
+
+pub below_append : (k : ℕ) (a b : List ℕ) → Below k a → Below k b → Below k (a ++ b)
+below_append k [] b ha hb i = hb i
+below_append k (x ∷ a) b ha hb zero = ha 0
+below_append k (x ∷ a) b ha hb (suc i) = below_append k a b (λ j. ha (suc j)) hb i
+
+pub below_cons : (k w : ℕ) (ws : List ℕ) → w < k → Below k ws → Below k (w ∷ ws)
+below_cons k w ws h b zero = h
+below_cons k w ws h b (suc i) = b i
+
+pub below_none : Below word_limit []
+below_none i = omega arith
+
+pub set_below : {k : ℕ} (ws : List ℕ) (i v : ℕ) → v < k → Below k ws → Below k (set ws i v)
+set_below [] i v h b j = b j
+set_below (w ∷ ws) zero v h b zero = h
+set_below (w ∷ ws) zero v h b (suc j) = b (suc j)
+set_below (w ∷ ws) (suc i) v h b zero = b 0
+set_below (w ∷ ws) (suc i) v h b (suc j) = set_below ws i v h (λ k. b (suc k)) j

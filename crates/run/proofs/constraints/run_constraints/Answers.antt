@@ -5,7 +5,8 @@ use Rattle.word.specs.Chunk.{words_in}
 use Rattle.word.proofs.ChunkLaws.{words_in_length}
 use Rattle.run.specs.Run.{run_constraints, trial_fetches}
 use Rattle.run.proofs.TestLaws.{tested_past}
-use Rattle.run.proofs.ConstraintLaws.{member_tested, constant_within, test_held, test_failed, Answers, answers_past, answers_end}
+use Rattle.run.proofs.RunLaws.{constant_within}
+use Rattle.run.proofs.ConstraintLaws.{member_tested, test_held, test_failed, Answers, answers_past, answers_end}
 use Rattle.run.proofs.constraints.run_constraints.Goals as goal
 use Rattle.run.proofs.constraints.run_constraints.Goals.{else-constraints-test, then-constraints-test+then-action-gt63+in_default}
 
@@ -29,7 +30,7 @@ loop-word-preserved c =
 pub test_constraint-requires : goal.test_constraint-requires
 test_constraint-requires c o =
     let l = words_in_length c.args.words.now in
-    omega (arith, constant_within c.loop-test.invariant.begins (omega (arith, c.loop-test.invariant.within)) c.nth_word-word-in-loop-test.ensures o)
+    omega (arith, constant_within c.loop-test.invariant.begins.next c.loop-test.invariant.begins.lines (omega (arith, c.loop-test.invariant.within)) c.nth_word-word-in-loop-test.ensures o)
 
 pub constraints-preserved : goal.constraints-preserved
 constraints-preserved c = grind (arith, words_in_length, test_failed, not-true)
